@@ -1,0 +1,89 @@
+// Why a call was refused. Every layer refuses with one of these, and a refused call has changed nothing: it consumed no
+// input, and what was lent to it stands as it stood. Document 01, "Refusal numbers".
+ghost use mathlib.Core.Path.{_≡_};
+ghost use Rattle.refusal.specs.Numbers.{numberOf};
+
+pub enum Refusal {
+    // Handshake short.
+    HandshakeTruncated,
+    // Preamble wrong.
+    WrongPreamble,
+    // Nothing in common: the caller sends four zeros.
+    NoCommonVersion,
+    // Frame incomplete: the caller waits for more bytes.
+    FrameIncomplete,
+    // Empty message, where the version has no keep-alives.
+    EmptyMessage,
+    // Too long: over 16,384 bytes.
+    TooLong,
+    // A marker, its size or tag, or its content is missing.
+    ValueTruncated,
+    // Reserved marker.
+    ReservedMarker,
+    // Too deep: a seventeenth open container.
+    TooDeep,
+    // Not UTF-8.
+    InvalidUtf8,
+    // A Dictionary's key is no String.
+    KeyNotString,
+    // A Dictionary's key comes twice.
+    DuplicateKey,
+    // Bytes are left over after the value.
+    TrailingBytes,
+    // Not a known request structure.
+    UnknownRequest,
+    // Field count.
+    WrongFieldCount,
+    // Field or entry.
+    InvalidField,
+    // 32 waiting.
+    QueueFull,
+    // The connection is DEFUNCT.
+    ConnectionDefunct,
+    // No request in flight, or success with more for a request that has none.
+    UnexpectedReport,
+    // 4,294,967,295 accepted.
+    RequestLimitReached,
+    // No room in the lent buffer.
+    NoRoom,
+    // Empty message or chunk size outside its range, in writing.
+    InvalidChunking,
+    // Line over 40,000 characters, not pairs of upper-case hexadecimal digits, or with bytes after its frame.
+    InvalidLine,
+    // The record breaks a standing rule.
+    InvalidRecord,
+}
+
+impl Refusal {
+    // The refusal's number in document 01's table.
+    pub fn number(self) -> u8
+        ensures { λ r. ⌜ r ≡ numberOf self ⌝ }
+    {
+        match self {
+            Refusal::HandshakeTruncated => 1,
+            Refusal::WrongPreamble => 2,
+            Refusal::NoCommonVersion => 3,
+            Refusal::FrameIncomplete => 4,
+            Refusal::EmptyMessage => 5,
+            Refusal::TooLong => 6,
+            Refusal::ValueTruncated => 7,
+            Refusal::ReservedMarker => 8,
+            Refusal::TooDeep => 9,
+            Refusal::InvalidUtf8 => 10,
+            Refusal::KeyNotString => 11,
+            Refusal::DuplicateKey => 12,
+            Refusal::TrailingBytes => 13,
+            Refusal::UnknownRequest => 14,
+            Refusal::WrongFieldCount => 15,
+            Refusal::InvalidField => 16,
+            Refusal::QueueFull => 17,
+            Refusal::ConnectionDefunct => 18,
+            Refusal::UnexpectedReport => 19,
+            Refusal::RequestLimitReached => 20,
+            Refusal::NoRoom => 21,
+            Refusal::InvalidChunking => 22,
+            Refusal::InvalidLine => 23,
+            Refusal::InvalidRecord => 24,
+        }
+    }
+}

@@ -1,0 +1,79 @@
+-- Laws of parts, of the tests that a part lies inside a list, and of a run of stores read again. Assumes nothing.
+use mathlib.Core.Path.{_≡_, refl, sym, ap, _∙_}
+use mathlib.Core.Bool.{Bool, true, false, _&&_}
+use mathlib.Core.List.{List, [], _∷_, _++_, append-assoc}
+use Prim.Native.Nat.{ℕ, suc, _+_, _-_, _≤_, _<_}
+use native.Mathlib.Numerals.{add-one, unary-clauses}
+use native.Mathlib.Omega.{arith}
+use lib.Dec.{leb, lit<}
+use lib.ListN.{length, getD, take, drop, set, length-drop, length-take, List·getD-eq-default}
+use lib.Seq.{drop-cons, sets, sets-eq, getD-drop, getD-take, length-take-le, take-at, drop-at}
+use borrow.Author.Tests.{le-leb, lt-leb, leb-true, leb-false}
+use Rattle.slices.specs.Parts.{part, reaches, fits}
+
+-- a part that lies inside the list has its full size
+pub length-part : (s : List ℕ) (start size : ℕ) → start + size ≤ length s → length (part s start size) ≡ size
+length-part s start size h = length-take-le size (drop start s) (omega (arith, length-drop start s))
+
+-- a part's first element, and the rest of it
+pub part-cons : (s : List ℕ) (start size : ℕ) → start < length s → part s start (suc size) ≡ getD s start 0 ∷ part s (start + 1) size
+part-cons s start size h = rw (add-one start, drop-cons s start 0 h)
+
+-- an element of a part is one of the list's
+pub getD-part : (s : List ℕ) (start size i : ℕ) → i < size → getD (part s start size) i 0 ≡ getD s (start + i) 0
+getD-part s start size i h = getD-take size (drop start s) i 0 h ∙ getD-drop start s i 0
+
+-- a run of stores, read again
+pub part-sets : (d : List ℕ) (at : ℕ) (v : List ℕ) → at + length v ≤ length d → part (sets d at v) at (length v) ≡ v
+part-sets d at v h =
+    ap (λ (l : List ℕ). part l at (length v)) (sets-eq v d at h ∙ append-assoc (take at d) v (drop (at + length v) d))
+    ∙ ap (take (length v)) (drop-at (take at d) (v ++ drop (at + length v) d) at (length-take-le at d (omega arith)))
+    ∙ take-at v (drop (at + length v) d) (length v) refl
+
+-- ---- the tests
+and-false : (b : Bool) → (b && false) ≡ false
+and-false true = refl
+and-false false = refl
+
+pub reaches-yes : (s : List ℕ) (start size : ℕ) → start + size ≤ length s → reaches s start size ≡ true
+reaches-yes s start size h = le-leb (start + size) (length s) h
+
+pub reaches-no : (s : List ℕ) (start size : ℕ) → length s < start + size → reaches s start size ≡ false
+reaches-no s start size h = lt-leb (start + size) (length s) h
+
+pub reaches-le : (s : List ℕ) (start size : ℕ) → reaches s start size ≡ true → start + size ≤ length s
+reaches-le s start size e = leb-true (start + size) (length s) e
+
+pub reaches-lt : (s : List ℕ) (start size : ℕ) → reaches s start size ≡ false → length s < start + size
+reaches-lt s start size e = leb-false (start + size) (length s) e
+
+module _ (s : List ℕ) (start size : ℕ) (d : List ℕ) (at : ℕ) where
+  pub fits-yes : start + size ≤ length s → at + size ≤ length d → fits s start size d at ≡ true
+  fits-yes h k = rw (reaches-yes s start size h, reaches-yes d at size k)
+
+  pub source-short : length s < start + size → fits s start size d at ≡ false
+  source-short h = rw (reaches-no s start size h)
+
+  pub target-short : length d < at + size → fits s start size d at ≡ false
+  target-short h = rw (reaches-no d at size h) (and-false (reaches s start size))
+
+-- ---- the loop of the copy: what is left to copy, copied now, gives what the whole copy gives
+abbrev pub Copying : List ℕ → ℕ → ℕ → List ℕ → ℕ → List ℕ → ℕ → Type 0
+Copying s start size d₀ at d i = sets d (at + i) (part s (start + i) (size - i)) ≡ sets d₀ at (part s start size)
+
+pub copying-none : (s : List ℕ) (start size : ℕ) (d : List ℕ) (at : ℕ) → Copying s start size d at d 0
+copying-none s start size d at = simp unary-clauses
+
+pub copying-next : (s : List ℕ) (start size : ℕ) (d₀ : List ℕ) (at : ℕ) (d : List ℕ) (i : ℕ) → i < size → start + i < length s
+    → Copying s start size d₀ at d i → Copying s start size d₀ at (set d (at + i) (getD s (start + i) 0)) (i + 1)
+copying-next s start size d₀ at d i h k w =
+    let e : size - i ≡ suc (size - (i + 1)) = omega arith in
+    let x : at + (i + 1) ≡ suc (at + i) = omega arith in
+    let y : start + (i + 1) ≡ start + i + 1 = omega arith in
+    rw (x, y) (sym (ap (λ (l : List ℕ). sets d (at + i) l) (ap (part s (start + i)) e ∙ part-cons s (start + i) (size - (i + 1)) k)) ∙ w)
+
+pub copying-done : (s : List ℕ) (start size : ℕ) (d₀ : List ℕ) (at : ℕ) (d : List ℕ) (i : ℕ) → i ≡ size
+    → Copying s start size d₀ at d i → d ≡ sets d₀ at (part s start size)
+copying-done s start size d₀ at d i e w =
+    let z : size - i ≡ 0 = omega arith in
+    (rw z refl) ∙ w

@@ -1,0 +1,110 @@
+-- `slices::copy` meets its contract. The loop's invariant: what is left to copy, copied now, gives what the whole copy gives.
+-- Assumes nothing.
+use mathlib.Core.Path.{_≡_, refl}
+use Prim.Native.Nat.{_+_, _-_, _≤_}
+use native.Mathlib.Omega.{arith}
+use lib.ListN.{length, length-set}
+use Rattle.slices.proofs.Parts.{fits-yes, source-short, target-short, Copying, copying-none, copying-next, copying-done}
+use Rattle.slices.proofs.copy.Statement.{statement}
+use Rattle.slices.proofs.copy.Tie as tie
+
+abbrev Inv-loop : tie.InvT-loop
+Inv-loop source start size target₀ at i₀ target i =
+    (start + size ≤ length source) × (at + size ≤ length target₀) × (i ≤ size) × (length target ≡ length target₀)
+    × Copying source start size target₀ at target i
+
+abbrev μ-loop : tie.MeasureT-loop
+μ-loop source start size target₀ at i₀ target i = size - i
+
+returns : tie.Need-returns Inv-loop μ-loop
+returns c =
+    let a = c .before .args in
+    rw (source-short (a .source .now) (a .start) (a .size) (a .target .now) (a .at) (omega arith)) (refl, refl)
+
+sub-if2 : tie.Need-sub-if2 Inv-loop μ-loop
+sub-if2 c = omega arith
+
+returns-2 : tie.Need-returns-2 Inv-loop μ-loop
+returns-2 c =
+    let a = c .before .before .args in
+    rw (source-short (a .source .now) (a .start) (a .size) (a .target .now) (a .at) (omega arith)) (refl, refl)
+
+returns-3 : tie.Need-returns-3 Inv-loop μ-loop
+returns-3 c =
+    let a = c .before .before .before .args in
+    rw (target-short (a .source .now) (a .start) (a .size) (a .target .now) (a .at) (omega arith)) (refl, refl)
+
+sub-if4 : tie.Need-sub-if4 Inv-loop μ-loop
+sub-if4 c = omega arith
+
+returns-4 : tie.Need-returns-4 Inv-loop μ-loop
+returns-4 c =
+    let a = c .before .before .before .before .args in
+    rw (target-short (a .source .now) (a .start) (a .size) (a .target .now) (a .at) (omega arith)) (refl, refl)
+
+loop-holds : tie.Need-loop-holds Inv-loop μ-loop
+loop-holds c =
+    let a = c .before .before .before .before .args in
+    (omega arith, omega arith, omega arith, refl, copying-none (a .source .now) (a .start) (a .size) (a .target .now) (a .at))
+
+add-target : tie.Need-add-target Inv-loop μ-loop
+add-target c = omega arith
+
+shared-slice-read-target : tie.Need-shared-slice-read-target Inv-loop μ-loop
+shared-slice-read-target c = omega arith
+
+add-target-2 : tie.Need-add-target-2 Inv-loop μ-loop
+add-target-2 c = omega arith
+
+slice-write-target : tie.Need-slice-write-target Inv-loop μ-loop
+slice-write-target c = omega arith
+
+add-i : tie.Need-add-i Inv-loop μ-loop
+add-i c = omega arith
+
+loop-less : tie.Need-loop-less Inv-loop μ-loop
+loop-less c = omega arith
+
+loop-again : tie.Need-loop-again Inv-loop μ-loop
+loop-again c =
+    let a = c .before .before .before .before .before .before .before .args in
+    let l = c .before .before .loop in (
+      omega arith,
+      omega arith,
+      omega arith,
+      simp length-set (l .inv .3),
+      copying-next (a .source .now) (a .start) (a .size) (a .target .now) (a .at) (l .target) (l .i) (omega arith) (omega arith) (l .inv .4),
+    )
+
+same-length : tie.Need-same-length Inv-loop μ-loop
+same-length c = c .before .loop .inv .3
+
+returns-5 : tie.Need-returns-5 Inv-loop μ-loop
+returns-5 c =
+    let a = c .before .before .before .before .before .before .args in
+    let l = c .before .loop in
+    rw (fits-yes (a .source .now) (a .start) (a .size) (a .target .now) (a .at) (omega arith) (omega arith))
+    (refl, copying-done (a .source .now) (a .start) (a .size) (a .target .now) (a .at) (l .target) (l .i) (omega arith) (l .inv .4))
+
+pub copy-spec : {M : Type 1} → statement M
+copy-spec =
+    tie.close
+    (tie.spec
+    Inv-loop
+    μ-loop
+    returns
+    sub-if2
+    returns-2
+    returns-3
+    sub-if4
+    returns-4
+    loop-holds
+    add-target
+    shared-slice-read-target
+    add-target-2
+    slice-write-target
+    add-i
+    loop-less
+    loop-again
+    same-length
+    returns-5)
