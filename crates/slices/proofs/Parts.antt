@@ -1,6 +1,6 @@
 -- Laws of parts, of the tests that a part lies inside a list, and of a run of stores read again. Assumes nothing.
 use mathlib.Core.Path.{_≡_, refl, sym, ap, _∙_}
-use mathlib.Core.Bool.{Bool, true, false, _&&_}
+use mathlib.Core.Bool.{true, false, _&&_, and-false}
 use mathlib.Core.List.{List, [], _∷_, _++_, append-assoc}
 use Prim.Native.Nat.{ℕ, suc, _+_, _-_, _≤_, _<_}
 use native.Mathlib.Numerals.{add-one, unary-clauses}
@@ -31,10 +31,6 @@ part-sets d at v h =
     ∙ take-at v (drop (at + length v) d) (length v) refl
 
 -- ---- the tests
-and-false : (b : Bool) → (b && false) ≡ false
-and-false true = refl
-and-false false = refl
-
 pub reaches-yes : (s : List ℕ) (start size : ℕ) → start + size ≤ length s → reaches s start size ≡ true
 reaches-yes s start size h = le-leb (start + size) (length s) h
 
