@@ -6,8 +6,8 @@ use Prim.Native.Nat.{ℕ, suc, _+_, _-_, _≤_, _<_}
 use native.Mathlib.Numerals.{add-one, unary-clauses}
 use native.Mathlib.Omega.{arith}
 use lib.Dec.{leb, lit<}
-use lib.ListN.{length, getD, take, drop, set, length-drop, length-take, List·getD-eq-default}
-use lib.Seq.{drop-cons, sets, sets-eq, getD-drop, getD-take, length-take-le, take-at, drop-at}
+use lib.ListN.{length, getD, take, drop, set, length-drop, length-take, drop-of-length-le}
+use lib.Seq.{drop-cons, sets, sets-eq, getD-drop, getD-take, length-take-le, take-all, take-nil, take-at, drop-at}
 use borrow.Author.Tests.{le-leb, lt-leb, leb-true, leb-false}
 use Rattle.slices.specs.Parts.{part, reaches, fits}
 
@@ -22,6 +22,16 @@ part-cons s start size h = rw (add-one start, drop-cons s start 0 h)
 -- an element of a part is one of the list's
 pub getD-part : (s : List ℕ) (start size i : ℕ) → i < size → getD (part s start size) i 0 ≡ getD s (start + i) 0
 getD-part s start size i h = getD-take size (drop start s) i 0 h ∙ getD-drop start s i 0
+
+-- a part that starts past the list is empty
+pub part-past : (s : List ℕ) (start size : ℕ) → length s ≤ start → part s start size ≡ []
+part-past s start size h = ap (take size) (drop-of-length-le s h) ∙ take-nil {A = ℕ} size
+
+-- a part that runs past the end is cut there
+pub part-cut : (s : List ℕ) (start size : ℕ) → length s - start ≤ size → part s start (length s - start) ≡ part s start size
+part-cut s start size h =
+    let e : length (drop start s) ≡ length s - start = length-drop start s in
+    take-all (length s - start) (drop start s) (omega arith) ∙ sym (take-all size (drop start s) (omega arith))
 
 -- a run of stores, read again
 pub part-sets : (d : List ℕ) (at : ℕ) (v : List ℕ) → at + length v ≤ length d → part (sets d at v) at (length v) ≡ v
