@@ -5,11 +5,10 @@ use mathlib.Core.List.{List, [], _∷_, _++_, append-assoc}
 use Prim.Native.Nat.{ℕ, suc, _+_, _-_, _≤_, _<_}
 use native.Mathlib.Numerals.{add-one, unary-clauses}
 use native.Mathlib.Omega.{arith}
-use lib.Dec.{leb, lit<}
-use lib.ListN.{length, getD, take, drop, set, length-drop, length-take, drop-of-length-le}
-use lib.Seq.{drop-cons, sets, sets-eq, getD-drop, getD-take, length-take-le, take-all, take-nil, take-at, drop-at}
+use lib.ListN.{length, getD, take, drop, set, length-drop, length-append, drop-of-length-le}
+use lib.Seq.{drop-cons, sets, sets-eq, getD-drop, getD-take, length-take-le, take-all, take-nil, take-at, drop-at, drop-append-add, drop-drop}
 use borrow.Author.Tests.{le-leb, lt-leb, leb-true, leb-false}
-use Rattle.slices.specs.Parts.{part, reaches, fits}
+use Rattle.slices.specs.Parts.{part, reaches, fits, front}
 
 -- a part that lies inside the list has its full size
 pub length-part : (s : List ℕ) (start size : ℕ) → start + size ≤ length s → length (part s start size) ≡ size
@@ -39,6 +38,22 @@ part-sets d at v h =
     ap (λ (l : List ℕ). part l at (length v)) (sets-eq v d at h ∙ append-assoc (take at d) v (drop (at + length v) d))
     ∙ ap (take (length v)) (drop-at (take at d) (v ++ drop (at + length v) d) at (length-take-le at d (omega arith)))
     ∙ take-at v (drop (at + length v) d) (length v) refl
+
+-- two runs of stores, one behind the other, are one
+pub sets-append : (v w d : List ℕ) (at : ℕ) → sets (sets d at v) (at + length v) w ≡ sets d at (v ++ w)
+sets-append [] w d at = simp unary-clauses
+sets-append (x ∷ v) w d at =
+    let e : at + suc (length v) ≡ suc at + length v = omega arith in
+    rw e (sets-append v w (set d at x) (suc at))
+
+-- a run of stores behind what stands in front
+pub sets-front : (v w d : List ℕ) → length v + length w ≤ length d → sets (front v d) (length v) w ≡ front (v ++ w) d
+sets-front v w d h =
+    let k : length w ≤ length (drop (length v) d) = omega (arith, length-drop (length v) d) in
+    let l : length (front v d) ≡ length v + length (drop (length v) d) = length-append v (drop (length v) d) in
+    let r : drop (length v + length w) (front v d) ≡ drop (length (v ++ w)) d =
+    drop-append-add v (drop (length v) d) (length w) ∙ drop-drop (length w) (length v) d ∙ rw length-append refl in
+    sets-eq w (front v d) (length v) (omega arith) ∙ rw (take-at v (drop (length v) d) (length v) refl, r) refl
 
 -- ---- the tests
 pub reaches-yes : (s : List ℕ) (start size : ℕ) → start + size ≤ length s → reaches s start size ≡ true

@@ -1,7 +1,7 @@
 -- Parts of lists, as every layer speaks of them. Assumes nothing.
 use Prim.Native.Nat.{ℕ, _+_}
 use mathlib.Core.Bool.{Bool, cond, _&&_}
-use mathlib.Core.List.{List}
+use mathlib.Core.List.{List, _++_}
 use lib.Dec.{leb}
 use lib.ListN.{length, take, drop}
 use lib.Seq.{sets}
@@ -21,3 +21,7 @@ fits s start size d at = reaches s start size && reaches d at size
 -- the target of a copy afterwards: `sets d at v` is d with the elements of v from `at` on in place of its own
 abbrev pub copied : List ℕ → ℕ → ℕ → List ℕ → ℕ → List ℕ
 copied s start size d at = cond (fits s start size d at) (sets d at (part s start size)) d
+
+-- v in front, and behind it the rest of d as it was
+abbrev pub front : List ℕ → List ℕ → List ℕ
+front v d = v ++ drop (length v) d

@@ -13,7 +13,8 @@ use lib.Dec.{eqb, leb, lit<}
 use lib.Pow.{shl-exact}
 use lib.ListN.{length, getD, drop, length-drop, length-append}
 use lib.Seq.{drop-cons, drop-drop}
-use Rattle.slices.proofs.Below.{below, and-true}
+use Rattle.slices.proofs.Below.{below}
+use Rattle.slices.proofs.Tests.{and-true}
 use Rattle.utf8.specs.Utf8.{leadingOnes, isContinuation, isScalar, completes, sized, rows, sequence, sequencesFrom, utf8}
 
 -- ---- bits

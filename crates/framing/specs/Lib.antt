@@ -1,0 +1,4 @@
+pub mod Feed
+pub mod Reading
+pub mod Chunking
+pub mod RoundTrip
