@@ -8,8 +8,8 @@ use native.Mathlib.Numerals.{add-one}
 use native.Mathlib.Omega.{arith}
 use lib.Arith.{digits-div, digits-lt, mod-mul}
 use lib.Bits.{bitOr, or-shifted}
-use lib.Dec.{T, ltb, eqb, eqb→eq, lit<}
-use lib.ListN.{length, getD, set, take, drop, length-append, length-drop, length-take, List·getD-eq-default}
+use lib.Dec.{ltb, eqb, eqb→eq, lit<}
+use lib.ListN.{length, getD, set, drop, length-append, length-drop, length-take, List·getD-eq-default}
 use lib.Pow.{pow-add, shl-exact}
 use lib.Seq.{take-suc, getD-drop, getD-take, sets}
 use borrow.Author.Tests.{ltb-true, ltb-false}
@@ -95,6 +95,10 @@ big-one s at h =
     plus : (n : ℕ) → 0 * 256 + n ≡ n
     plus n = omega arith
 
+-- two bytes, as code without a loop reads them
+pub big-two : (s : List ℕ) (at : ℕ) → at + 1 < length s → bigEndian (part s at 2) ≡ getD s at 0 * 256 + getD s (at + 1) 0
+big-two s at h = big-part s at 1 h ∙ ap (λ (n : ℕ). n * 256 + getD s (at + 1) 0) (big-one s at (omega arith))
+
 -- a part of bytes is bytes
 pub bytes-part : (s : List ℕ) (at k : ℕ) → Bytes s → Bytes (part s at k)
 bytes-part s at k h i = by (ltb i k) refl
@@ -117,6 +121,24 @@ bytes-bytesOf zero n zero = lit< tt
 bytes-bytesOf zero n (suc i) = lit< tt
 bytes-bytesOf (suc k) n zero = mod-lt _ (lit< tt)
 bytes-bytesOf (suc k) n (suc i) = bytes-bytesOf k n i
+
+-- one byte and two, as code without a loop writes them
+pub bytesOf-one : (n : ℕ) → n < 256 → bytesOf 1 n ≡ n ∷ []
+unfolding bytesOf
+bytesOf-one n h = ap (λ (b : ℕ). b ∷ []) (low n h)
+  where
+    low : (n : ℕ) → n < 256 → n / 1 % 256 ≡ n
+    low n h = omega arith
+
+pub bytesOf-two : (n : ℕ) → n < 65536 → bytesOf 2 n ≡ n / 256 ∷ n % 256 ∷ []
+unfolding bytesOf
+bytesOf-two n h = ap₂ (λ (a b : ℕ). a ∷ b ∷ []) (high n h) (low n)
+  where
+    high : (n : ℕ) → n < 65536 → n / 256 % 256 ≡ n / 256
+    high n h = omega arith
+
+    low : (n : ℕ) → n / 1 % 256 ≡ n % 256
+    low n = omega arith
 
 -- what is above the k bytes does not show in them
 pub bytes-low : (k x m : ℕ) → bytesOf k (x * 256 ^ k + m) ≡ bytesOf k m
@@ -173,6 +195,6 @@ pub store-next : (d : List ℕ) (i j n : ℕ) → sets (set d i (n / 2 ^ (8 * j)
 unfolding bytesOf
 store-next d i j n = rw (add-one i, pow256-bits j)
 
--- ---- a byte put below a number of j bits, in code that shifts and combines words of w bits
+-- a byte put below a number of j bits, in code that shifts and combines words of w bits
 pub cat-bits : (j w a b : ℕ) → a < 2 ^ j → j + 8 ≤ w → b < 256 → bitOr ((a * 2 ^ 8) % 2 ^ w) b ≡ a * 256 + b
 cat-bits j w a b h l m = rw (shl-exact {a = a} j 8 w h l) (or-shifted a 8 b m)

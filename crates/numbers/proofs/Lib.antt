@@ -1,3 +1,6 @@
 pub mod Below
 pub mod BigEndian
+pub mod TwosComplement
 pub mod Access
+pub mod I64
+pub mod RoundTrip

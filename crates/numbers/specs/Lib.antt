@@ -1,2 +1,4 @@
 pub mod BigEndian
+pub mod TwosComplement
 pub mod Access
+pub mod RoundTrip

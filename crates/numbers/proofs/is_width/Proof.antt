@@ -1,5 +1,4 @@
 -- `numbers::is_width` meets its contract. Assumes nothing.
-use mathlib.Core.Path.{_≡_}
 use borrow.Author.Tests.{ne-eqb}
 use Rattle.numbers.proofs.is_width.Statement.{statement}
 use Rattle.numbers.proofs.is_width.Tie as tie

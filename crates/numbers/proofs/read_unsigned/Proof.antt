@@ -1,25 +1,23 @@
 -- `numbers::read_unsigned` meets its contract. The loop's invariant: `number` is the number of the i bytes passed, so it is below 256
 -- to the i. Assumes nothing.
 use mathlib.Core.Path.{_≡_, sym, ap, _∙_}
-use mathlib.Core.Bool.{true}
 use Prim.Native.Nat.{ℕ, _+_, _*_, _-_, _^_, _≤_, _<_}
 use native.Mathlib.Omega.{arith}
 use borrow.Author.Needs.{needs}
 use lib.Dec.{lit<}
-use lib.ListN.{length, getD}
+use lib.ListN.{getD}
 use Rattle.slices.specs.Parts.{part}
 use Rattle.slices.proofs.Parts.{reaches-le, reaches-lt}
 use Rattle.numbers.specs.BigEndian.{bigEndian}
-use Rattle.numbers.specs.Access.{isWidth}
 use Rattle.numbers.specs.declared.Unsigned.the-variants.{Number}
 use Rattle.numbers.proofs.BigEndian.{big-none, big-part, load-room, load-next}
-use Rattle.numbers.proofs.Access.{failed, passed, width-most, unsigned-number, unsigned-beyond, unsigned-invalid}
+use Rattle.numbers.proofs.Access.{Lies, failed, passed, width-most, unsigned-number, unsigned-beyond, unsigned-invalid}
 use Rattle.numbers.proofs.read_unsigned.Statement.{statement}
 use Rattle.numbers.proofs.read_unsigned.Tie as tie
 
 abbrev Inv-loop : tie.InvT-loop
 Inv-loop bytes at width number₀ i₀ number i =
-    (isWidth width ≡ true) × (at + width ≤ length bytes) × (i ≤ width) × (number ≡ bigEndian (part bytes at i)) × (number < 256 ^ i)
+    Lies bytes at width × (i ≤ width) × (number ≡ bigEndian (part bytes at i)) × (number < 256 ^ i)
 
 abbrev μ-loop : tie.MeasureT-loop
 μ-loop bytes at width number₀ i₀ number i = width - i
@@ -46,8 +44,10 @@ loop-holds : tie.Need-loop-holds Inv-loop μ-loop
 loop-holds c =
     let r = c .before .before in
     let a = r .before .before .before .args in (
-      passed (r .before .is-width .ensures) (r .if1 .left),
-      reaches-le (a .bytes .now) (a .at) (a .width) (passed (c .before .in-bounds .ensures) (c .if2 .left)),
+      record {
+        width = passed (r .before .is-width .ensures) (r .if1 .left);
+        inside = reaches-le (a .bytes .now) (a .at) (a .width) (passed (c .before .in-bounds .ensures) (c .if2 .left));
+      },
       omega arith,
       sym (big-none (a .bytes .now) (a .at)),
       lit< tt,
@@ -57,7 +57,7 @@ mul-number : tie.Need-mul-number Inv-loop μ-loop
 mul-number c =
     let a = c .before .before .before .before .before .before .before .args in
     let l = c .before .loop in
-    omega (arith, load-room (l .number) (l .i) (a .width) (l .inv .4) (c .loop-test .taken) (width-most (a .width) (l .inv .0)))
+    omega (arith, load-room (l .number) (l .i) (a .width) (l .inv .3) (c .loop-test .taken) (width-most (a .width) (l .inv .0 .width)))
 
 add-number : tie.Need-add-number Inv-loop μ-loop
 add-number c = omega arith
@@ -77,7 +77,7 @@ add-number-2 c =
     omega (
       arith,
       c .shared-slice-known2 .given (a .at + l .i),
-      load-room (l .number) (l .i) (a .width) (l .inv .4) (c .before .loop-test .taken) (width-most (a .width) (l .inv .0)),
+      load-room (l .number) (l .i) (a .width) (l .inv .3) (c .before .loop-test .taken) (width-most (a .width) (l .inv .0 .width)),
     )
 
 add-i : tie.Need-add-i Inv-loop μ-loop
@@ -92,10 +92,9 @@ loop-again c =
     let l = c .before .before .loop in
     let b : ℕ = getD (a .bytes .now) (a .at + l .i) 0 in (
       l .inv .0,
-      l .inv .1,
       omega arith,
-      rw (big-part (a .bytes .now) (a .at) (l .i) (omega arith)) (ap (λ (n : ℕ). n * 256 + b) (l .inv .3)),
-      load-next (l .number) b (l .i) (l .inv .4) (c .shared-slice-known2 .given (a .at + l .i) .fits),
+      rw (big-part (a .bytes .now) (a .at) (l .i) (omega arith)) (ap (λ (n : ℕ). n * 256 + b) (l .inv .2)),
+      load-next (l .number) b (l .i) (l .inv .3) (c .shared-slice-known2 .given (a .at + l .i) .fits),
     )
 
 returns-3 : tie.Need-returns-3 Inv-loop μ-loop
@@ -103,8 +102,8 @@ returns-3 c =
     let a = c .before .before .before .before .before .before .before .args in
     let l = c .before .loop in
     let e : l .i ≡ a .width = omega arith in
-    ap Number (l .inv .3 ∙ ap (λ (k : ℕ). bigEndian (part (a .bytes .now) (a .at) k)) e)
-    ∙ unsigned-number (a .bytes .now) (a .at) (a .width) (l .inv .0) (l .inv .1)
+    ap Number (l .inv .2 ∙ ap (λ (k : ℕ). bigEndian (part (a .bytes .now) (a .at) k)) e)
+    ∙ unsigned-number (a .bytes .now) (a .at) (a .width) (l .inv .0)
 
 pub read-unsigned-spec : {M : Type 1} → statement M
 read-unsigned-spec =

@@ -1,10 +1,9 @@
 -- `numbers::store` meets its contract. The loop's invariant: what is left to store, stored now, gives what the whole store gives.
 -- Assumes nothing.
 use mathlib.Core.Path.{_≡_, refl, sym, ap, _∙_}
-use mathlib.Core.List.{List}
-use Prim.Native.Nat.{ℕ, suc, _+_, _*_, _-_, _≤_, _<_}
+use Prim.Native.Nat.{ℕ, suc, _+_, _-_, _≤_}
 use native.Mathlib.Omega.{arith}
-use lib.ListN.{length, set, length-set}
+use lib.ListN.{length, length-set}
 use lib.Seq.{sets}
 use borrow.Author.Needs.{needs}
 use Rattle.slices.proofs.Parts.{reaches-yes, reaches-le}
@@ -63,7 +62,9 @@ loop-again c =
       omega arith,
       omega arith,
       simp length-set (l .inv .3),
-      store-next (l .bytes) (l .i) (l .left - 1) (a .number) ∙ ap (λ (j : ℕ). sets (l .bytes) (l .i) (bytesOf j (a .number))) (sym e) ∙ l .inv .4,
+      store-next (l .bytes) (l .i) (l .left - 1) (a .number)
+          ∙ ap (λ (j : ℕ). sets (l .bytes) (l .i) (bytesOf j (a .number))) (sym e)
+          ∙ l .inv .4,
     )
 
 same-length : tie.Need-same-length Inv-loop μ-loop
