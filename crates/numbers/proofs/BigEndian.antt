@@ -8,14 +8,14 @@ use native.Mathlib.Numerals.{add-one}
 use native.Mathlib.Omega.{arith}
 use lib.Arith.{digits-div, digits-lt, mod-mul}
 use lib.Bits.{bitOr, or-shifted}
-use lib.Dec.{ltb, eqb, eqb→eq, lit<}
+use lib.Dec.{ltb, eqb, lit<}
 use lib.ListN.{length, getD, set, drop, length-append, length-drop, length-take, List·getD-eq-default}
 use lib.Pow.{pow-add, shl-exact}
 use lib.Seq.{take-suc, getD-drop, getD-take, sets}
-use borrow.Author.Tests.{ltb-true, ltb-false}
+use borrow.Author.Tests.{ltb-true, ltb-false, eqb-true}
 use Rattle.slices.specs.Parts.{part}
+use Rattle.slices.proofs.Below.{below}
 use Rattle.numbers.specs.BigEndian.{bigEndian, bytesOf, Bytes}
-use Rattle.numbers.proofs.Below.{below}
 
 -- ---- powers of 256
 pub pow256-pos : (k : ℕ) → 0 < 256 ^ k
@@ -47,7 +47,7 @@ largest-is zero h l = absurd (none h)
     none : 1 ≤ 0 → ⊥
     none h = omega arith
 largest-is (suc j) h l =
-    eqb→eq ((2 ^ 64 - 1) / 2 ^ (64 - 8 * suc j)) (256 ^ suc j - 1) (below largestTest 8 tt j (omega arith))
+    eqb-true ((2 ^ 64 - 1) / 2 ^ (64 - 8 * suc j)) (256 ^ suc j - 1) (below largestTest 8 refl j (omega arith))
 
 -- ---- the number of a list of bytes
 -- it is below 256 to the length

@@ -1,4 +1,3 @@
-pub mod Below
 pub mod BigEndian
 pub mod TwosComplement
 pub mod Access
