@@ -1,0 +1,5 @@
+pub mod Value
+pub mod Marker
+pub mod Decode
+pub mod Reading
+pub mod Cases
