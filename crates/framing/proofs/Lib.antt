@@ -4,3 +4,4 @@ pub mod Copying
 pub mod Telling
 pub mod Chunking
 pub mod RoundTrip
+pub mod Places
