@@ -1,0 +1,5 @@
+pub mod Names
+pub mod View
+pub mod Checks
+pub mod Requests
+pub mod Cases

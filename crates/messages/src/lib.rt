@@ -1,0 +1,4 @@
+// Messages: from a message's bytes to a request with its fields. Document 01, "Requests".
+pub mod checks;
+pub mod request;
+pub mod view;
