@@ -1,7 +1,7 @@
 -- Laws of lines: digits and their values, one more pair of digits, and which answer is given. Assumes nothing.
 use mathlib.Core.Path.{_≡_, refl, sym, ap, _∙_}
 use mathlib.Core.Logic.{⊎-elim}
-use mathlib.Core.Bool.{Bool, true, false, false≢true, not, _&&_, _||_, and-false}
+use mathlib.Core.Bool.{Bool, true, false, false≢true, not, _&&_, _||_, and-false, and-eq-true-iff}
 use mathlib.Core.List.{List, [], _∷_}
 use Prim.Native.Nat.{ℕ, zero, suc, _+_, _*_, _/_, _%_, _<_, _≤_}
 use native.Mathlib.Numerals.{add-one}
@@ -13,7 +13,7 @@ use borrow.Author.Tests.{le-leb, lt-leb, lt-ltb, le-ltb, eq-eqb, ne-eqb, eqb-tru
 use Rattle.slices.specs.Parts.{front}
 use Rattle.slices.proofs.Below.{every, below}
 use Rattle.slices.proofs.Pieces.{Put, put-next, put-done}
-use Rattle.slices.proofs.Tests.{and-true, lt-or-ge}
+use Rattle.slices.proofs.Tests.{lt-or-ge}
 use Rattle.refusal.specs.Answer.{result, refused}
 use Rattle.hex.specs.Hex.{isDigit, valueOf, digitOf, allDigits, isLine, toBytes, toDigits, decoding, encoding}
 
@@ -49,17 +49,17 @@ module _ (c : ℕ) (d : isDigit c ≡ true) where
 
   pub value-bits : c % 16 + 9 * (c / 64) ≡ valueOf c
   unfolding rules
-  value-bits = eqb-true _ _ (and-true (eqb (c % 16 + 9 * (c / 64)) (valueOf c)) _ ruled .0)
+  value-bits = eqb-true _ _ (and-eq-true-iff (eqb (c % 16 + 9 * (c / 64)) (valueOf c)) _ .0 ruled .0)
 
   small-and-back : (ltb (valueOf c) 16 && eqb (digitOf (valueOf c)) c) ≡ true
   unfolding rules
-  small-and-back = and-true (eqb (c % 16 + 9 * (c / 64)) (valueOf c)) _ ruled .1
+  small-and-back = and-eq-true-iff (eqb (c % 16 + 9 * (c / 64)) (valueOf c)) _ .0 ruled .1
 
   pub value-lt : valueOf c < 16
-  value-lt = ltb-true _ _ (and-true (ltb (valueOf c) 16) _ small-and-back .0)
+  value-lt = ltb-true _ _ (and-eq-true-iff (ltb (valueOf c) 16) _ .0 small-and-back .0)
 
   pub digit-value : digitOf (valueOf c) ≡ c
-  digit-value = eqb-true _ _ (and-true (ltb (valueOf c) 16) _ small-and-back .1)
+  digit-value = eqb-true _ _ (and-eq-true-iff (ltb (valueOf c) 16) _ .0 small-and-back .1)
 
 -- what holds of a value below 16, and is computed at each: it has a digit, of that value
 valueTest : ℕ → Bool
@@ -75,10 +75,10 @@ module _ (n : ℕ) (h : n < 16) where
   valued = below valueTest 16 values-tested n h
 
   pub digit-is : isDigit (digitOf n) ≡ true
-  digit-is = and-true (isDigit (digitOf n)) _ valued .0
+  digit-is = and-eq-true-iff (isDigit (digitOf n)) _ .0 valued .0
 
   pub value-digit : valueOf (digitOf n) ≡ n
-  value-digit = eqb-true _ _ (and-true (isDigit (digitOf n)) _ valued .1)
+  value-digit = eqb-true _ _ (and-eq-true-iff (isDigit (digitOf n)) _ .0 valued .1)
 
 -- ---- a line
 -- one digit more, and none
@@ -94,8 +94,8 @@ digits-end s i h = rw (drop-of-length-le s h) refl
 digit-of : (s : List ℕ) (i : ℕ) → allDigits s ≡ true → i < length s → isDigit (getD s i 0) ≡ true
 unfolding allDigits
 digit-of [] i e h = absurd (omega (arith, h))
-digit-of (c ∷ s) zero e h = and-true (isDigit c) (allDigits s) e .0
-digit-of (c ∷ s) (suc i) e h = digit-of s i (and-true (isDigit c) (allDigits s) e .1) (omega (arith, h))
+digit-of (c ∷ s) zero e h = and-eq-true-iff (isDigit c) (allDigits s) .0 e .0
+digit-of (c ∷ s) (suc i) e h = digit-of s i (and-eq-true-iff (isDigit c) (allDigits s) .0 e .1) (omega (arith, h))
 
 module _ (s : List ℕ) where
   -- the tests of a line, in their order
@@ -116,7 +116,7 @@ module _ (s : List ℕ) where
     pub line-pairs : (length s % 2 ≡ 0) × (allDigits s ≡ true)
     unfolding isLine
     line-pairs =
-        let p = and-true (eqb (length s % 2) 0) (allDigits s) (and-true (leb (length s) 40000) _ l .1) in
+        let p = and-eq-true-iff (eqb (length s % 2) 0) (allDigits s) .0 (and-eq-true-iff (leb (length s) 40000) _ .0 l .1) in
         (eqb-true _ _ (p .0), p .1)
 
     -- each of its characters is a digit

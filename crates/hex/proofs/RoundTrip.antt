@@ -1,12 +1,11 @@
 -- Bytes survive their digits, and a line its bytes. Assumes nothing.
 use mathlib.Core.Path.{_≡_, refl, ap, _∙_}
-use mathlib.Core.Bool.{Bool, true, false, cond, _&&_}
+use mathlib.Core.Bool.{Bool, true, false, cond, _&&_, and-eq-true-iff}
 use mathlib.Core.List.{List, [], _∷_}
 use Prim.Native.Nat.{ℕ, suc, _+_, _*_, _/_, _%_, _<_}
 use native.Mathlib.Omega.{arith}
 use lib.Dec.{ltb}
 use lib.ListN.{length}
-use Rattle.slices.proofs.Tests.{and-true}
 use Rattle.numbers.specs.BigEndian.{Bytes}
 use Rattle.refusal.specs.Answer.{result, refused}
 use Rattle.hex.specs.Hex.{isDigit, valueOf, digitOf, allDigits, isLine, toBytes, toDigits, into, decoding, encoding}
@@ -53,8 +52,8 @@ unfolding allDigits toBytes toDigits
 digits-of-bytes [] e d = refl
 digits-of-bytes (c ∷ []) e d = absurd (omega (arith, e))
 digits-of-bytes (high ∷ low ∷ s) e d =
-    let p = and-true (isDigit high) (isDigit low && allDigits s) d in
-    let q = and-true (isDigit low) (allDigits s) (p .1) in
+    let p = and-eq-true-iff (isDigit high) (isDigit low && allDigits s) .0 d in
+    let q = and-eq-true-iff (isDigit low) (allDigits s) .0 (p .1) in
     let h : valueOf high < 16 = value-lt high (p .0) in
     let l : valueOf low < 16 = value-lt low (q .0) in
     let a : (16 * valueOf high + valueOf low) / 16 ≡ valueOf high = omega arith in
