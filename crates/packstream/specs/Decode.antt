@@ -1,6 +1,6 @@
 -- The value that a message is, or the refusal: document 01, "Values", "Checks at one value, in order". Assumes nothing.
 use Prim.Native.Nat.{ℕ, zero, suc, _+_}
-use mathlib.Core.Bool.{Bool, true, false, cond, _&&_, _||_}
+use mathlib.Core.Bool.{Bool, true, false, not, cond, _&&_, _||_}
 use mathlib.Core.List.{List, [], _∷_}
 use lib.Dec.{ltb, eqb}
 use lib.ListN.{length, getD}
@@ -61,18 +61,18 @@ extentAt s depth at =
     (kindExtent s depth at (markerOf (getD s at 0)) (markerOf (getD s at 0) .kind))
     (E.Refused ValueTruncated (length s))
 
--- "at a key: 7, 8, then 11, then the String's checks"
-abbrev pub keyLeafExtent : List ℕ → ℕ → Marker → Leaf → Extent
-keyLeafExtent s at m L.String = leafExtent s at L.String m
-keyLeafExtent s at m L.Null = E.Refused KeyNotString at
-keyLeafExtent s at m L.Boolean = E.Refused KeyNotString at
-keyLeafExtent s at m L.Integer = E.Refused KeyNotString at
-keyLeafExtent s at m L.Float = E.Refused KeyNotString at
-keyLeafExtent s at m L.Bytes = E.Refused KeyNotString at
+abbrev pub isString : Leaf → Bool
+isString L.Null = false
+isString L.Boolean = false
+isString L.Integer = false
+isString L.Float = false
+isString L.Bytes = false
+isString L.String = true
 
+-- "at a key: 7, 8, then 11, then the String's checks"
 abbrev pub keyKindExtent : List ℕ → ℕ → Marker → Kind → Extent
 keyKindExtent s at m K.Reserved = E.Refused ReservedMarker at
-keyKindExtent s at m (K.Leaf k) = keyLeafExtent s at m k
+keyKindExtent s at m (K.Leaf k) = cond (isString k) (leafExtent s at k m) (E.Refused KeyNotString at)
 keyKindExtent s at m (K.Container k) = E.Refused KeyNotString at
 
 unfoldable pub keyExtentAt : List ℕ → ℕ → Extent
@@ -107,18 +107,10 @@ leafValue s L.Float p n = float (bigEndian (part s p n))
 leafValue s L.Bytes p n = bytes p (part s p n)
 leafValue s L.String p n = string p (part s p n)
 
--- only a String has to be text
-abbrev pub isText : Leaf → List ℕ → Bool
-isText L.String content = utf8 content
-isText L.Null content = true
-isText L.Boolean content = true
-isText L.Integer content = true
-isText L.Float content = true
-isText L.Bytes content = true
-
--- "UTF-8 10"
+-- "UTF-8 10": only a String has to be text
 unfoldable pub leafAt : List ℕ → ℕ → Leaf → ℕ → ℕ → Parse Value
-leafAt s at k p n = cond (isText k (part s p n)) (parsed (leafValue s k p n) (p + n)) (failed InvalidUtf8 at)
+leafAt s at k p n =
+    cond (isString k && not (utf8 (part s p n))) (failed InvalidUtf8 at) (parsed (leafValue s k p n) (p + n))
 
 -- n values from `at` on, each read by f
 unfoldable pub items : (ℕ → Parse Value) → ℕ → ℕ → Parse Items
