@@ -19,8 +19,8 @@ use Rattle.numbers.proofs.Unsigned as Un
 use Rattle.numbers.proofs.Access.{unsigned-found}
 use Rattle.refusal.specs.declared.Refusal.{Refusal}
 use Rattle.refusal.specs.declared.Refusal.the-variants.{ValueTruncated, ReservedMarker, TooDeep, KeyNotString}
-use Rattle.packstream.specs.Marker.{markerOf}
-use Rattle.packstream.specs.Decode.{sizeAt, onSize, leafExtent, containerExtent, kindExtent, extentAt, isString, keyKindExtent, keyExtentAt}
+use Rattle.packstream.specs.Marker.{markerOf, isString, hasSize}
+use Rattle.packstream.specs.Decode.{sizeAt, onSize, leafExtent, containerExtent, kindExtent, extentAt, keyKindExtent, keyExtentAt}
 use Rattle.packstream.specs.declared.marker.Leaf.{Leaf}
 use Rattle.packstream.specs.declared.marker.Leaf.the-variants as L
 use Rattle.packstream.specs.declared.marker.Container.{Container}
@@ -29,7 +29,7 @@ use Rattle.packstream.specs.declared.marker.Kind.the-variants as K
 use Rattle.packstream.specs.declared.marker.Marker.{Marker}
 use Rattle.packstream.specs.declared.extent.Extent.{Extent}
 use Rattle.packstream.specs.declared.extent.Extent.the-variants as E
-use Rattle.packstream.proofs.Markers.{hasSize, tellsSize, skip-one, SoundLeaf, sound-leaf, sound-container}
+use Rattle.packstream.proofs.Markers.{tellsSize, skip-one, SoundLeaf, sound-leaf, sound-container}
 
 -- ---- sizes
 module _ (s : List ℕ) (at : ℕ) (m : Marker) where
@@ -49,23 +49,30 @@ module _ (s : List ℕ) (at : ℕ) (m : Marker) where
   pub size-inside : (n : ℕ) → U.Number n ≡ sizeAt s at m → at < length s → m .skip ≤ 1 → at + m .skip + m .width ≤ length s
   size-inside n e = found-size n (eqb (m .width) 0) e refl
 
--- a size that is not a number is missing
-pub no-size : (at : ℕ) (u : Unsigned) (f : ℕ → Extent) → OneOf (1 ∷ 2 ∷ []) (tagOf Un.the-type u) → E.Refused ValueTruncated at ≡ onSize at u f
-no-size at (U.Number n) f (inl e) = absurd (never e)
+-- an answer of a read that is not its first case, a number
+abbrev pub NoNumber : ℕ → Type 0
+NoNumber tag = OneOf (1 ∷ 2 ∷ []) tag
+
+pub not-first : NoNumber 0 → ⊥
+not-first (inl e) = never e
   where
     never : _≡_ {A = ℕ} 0 1 → ⊥
     never e = omega arith
-no-size at (U.Number n) f (inr e) = absurd (never e)
+not-first (inr e) = never e
   where
     never : _≡_ {A = ℕ} 0 2 → ⊥
     never e = omega arith
+
+-- a size that is not a number is missing
+pub no-size : (at : ℕ) (u : Unsigned) (f : ℕ → Extent) → NoNumber (tagOf Un.the-type u) → E.Refused ValueTruncated at ≡ onSize at u f
+no-size at (U.Number n) f e = absurd (not-first e)
 no-size at U.OutOfBounds f e = refl
 no-size at U.InvalidWidth f e = refl
 
 -- ---- what the code's tests make of a leaf and of a container
 module _ (s : List ℕ) (at : ℕ) (m : Marker) where
   module _ (k : Leaf) where
-    pub leaf-unsized : OneOf (1 ∷ 2 ∷ []) (tagOf Un.the-type (sizeAt s at m)) → E.Refused ValueTruncated at ≡ leafExtent s at k m
+    pub leaf-unsized : NoNumber (tagOf Un.the-type (sizeAt s at m)) → E.Refused ValueTruncated at ≡ leafExtent s at k m
     unfolding leafExtent
     leaf-unsized e = no-size at (sizeAt s at m) _ e
 
@@ -83,7 +90,7 @@ module _ (s : List ℕ) (at : ℕ) (m : Marker) where
       leaf-there h = rw (by-size, reaches-yes s (at + m .skip + m .width) n h)
 
   module _ (k : Container) where
-    pub container-unsized : OneOf (1 ∷ 2 ∷ []) (tagOf Un.the-type (sizeAt s at m)) → E.Refused ValueTruncated at ≡ containerExtent s at k m
+    pub container-unsized : NoNumber (tagOf Un.the-type (sizeAt s at m)) → E.Refused ValueTruncated at ≡ containerExtent s at k m
     unfolding containerExtent
     container-unsized e = no-size at (sizeAt s at m) _ e
 

@@ -1,2 +1,6 @@
 pub mod Markers
 pub mod Extents
+pub mod Leaves
+pub mod KeySearch
+pub mod Walk
+pub mod Scratch

@@ -11,8 +11,7 @@ use lib.Dec.{ltb, leb, eqb}
 use borrow.Author.Tests.{ltb-true, leb-true, eqb-true, lt-leb}
 use Rattle.slices.proofs.Below.{below}
 use Rattle.slices.proofs.Tests.{and-true, lt-or-ge}
-use Rattle.numbers.specs.Access.{isWidth}
-use Rattle.packstream.specs.Marker.{reserved, itself, small, sized, Row, table, lookup, markerOf}
+use Rattle.packstream.specs.Marker.{reserved, itself, small, sized, Row, table, lookup, markerOf, hasSize}
 use Rattle.packstream.specs.declared.marker.Leaf.{Leaf}
 use Rattle.packstream.specs.declared.marker.Leaf.the-variants as L
 use Rattle.packstream.specs.declared.marker.Container.{Container}
@@ -88,16 +87,7 @@ by-split m high h e =
     rw (and-mask m 4, ← e) (agree (λ k. splitBy (k / 16) (k % 16) k) markerOf 256 refl m h)
 
 -- ---- what holds of every marker
--- the sizes that a kind has: an Integer's is a width, a Float's 8, a Boolean's 1
-abbrev pub hasSize : Leaf → ℕ → Bool
-hasSize L.Null n = true
-hasSize L.Boolean n = eqb n 1
-hasSize L.Integer n = isWidth n
-hasSize L.Float n = eqb n 8
-hasSize L.Bytes n = true
-hasSize L.String n = true
-
--- of these, the marker alone tells the size
+-- the marker alone tells the size
 abbrev pub tellsSize : Leaf → Bool
 tellsSize L.Null = true
 tellsSize L.Boolean = true

@@ -1,6 +1,6 @@
 -- The value that a message is, or the refusal: document 01, "Values", "Checks at one value, in order". Assumes nothing.
 use Prim.Native.Nat.{ℕ, zero, suc, _+_}
-use mathlib.Core.Bool.{Bool, true, false, not, cond, _&&_, _||_}
+use mathlib.Core.Bool.{Bool, true, false, cond, _&&_, _||_}
 use mathlib.Core.List.{List, [], _∷_}
 use lib.Dec.{ltb, eqb}
 use lib.ListN.{length, getD}
@@ -16,7 +16,7 @@ use Rattle.refusal.specs.Answer.{Answer, result, refused}
 use Rattle.refusal.specs.declared.Refusal.{Refusal}
 use Rattle.refusal.specs.declared.Refusal.the-variants.{TooLong, ValueTruncated, ReservedMarker, TooDeep, InvalidUtf8, KeyNotString, DuplicateKey, TrailingBytes}
 use Rattle.packstream.specs.Value.{Value, null, boolean, integer, float, bytes, string, list, dictionary, structure, Items, no-items, item, Entries, no-entries, entry}
-use Rattle.packstream.specs.Marker.{markerOf}
+use Rattle.packstream.specs.Marker.{markerOf, isString}
 use Rattle.packstream.specs.declared.marker.Leaf.the-variants as L
 use Rattle.packstream.specs.declared.marker.Leaf.{Leaf}
 use Rattle.packstream.specs.declared.marker.Container.the-variants as C
@@ -61,14 +61,6 @@ extentAt s depth at =
     (kindExtent s depth at (markerOf (getD s at 0)) (markerOf (getD s at 0) .kind))
     (E.Refused ValueTruncated (length s))
 
-abbrev pub isString : Leaf → Bool
-isString L.Null = false
-isString L.Boolean = false
-isString L.Integer = false
-isString L.Float = false
-isString L.Bytes = false
-isString L.String = true
-
 -- "at a key: 7, 8, then 11, then the String's checks"
 abbrev pub keyKindExtent : List ℕ → ℕ → Marker → Kind → Extent
 keyKindExtent s at m K.Reserved = E.Refused ReservedMarker at
@@ -107,10 +99,13 @@ leafValue s L.Float p n = float (bigEndian (part s p n))
 leafValue s L.Bytes p n = bytes p (part s p n)
 leafValue s L.String p n = string p (part s p n)
 
--- "UTF-8 10": only a String has to be text
+-- only a String has to be text
+abbrev pub isText : Leaf → List ℕ → Bool
+isText k content = cond (isString k) (utf8 content) true
+
+-- "UTF-8 10"
 unfoldable pub leafAt : List ℕ → ℕ → Leaf → ℕ → ℕ → Parse Value
-leafAt s at k p n =
-    cond (isString k && not (utf8 (part s p n))) (failed InvalidUtf8 at) (parsed (leafValue s k p n) (p + n))
+leafAt s at k p n = cond (isText k (part s p n)) (parsed (leafValue s k p n) (p + n)) (failed InvalidUtf8 at)
 
 -- n values from `at` on, each read by f
 unfoldable pub items : (ℕ → Parse Value) → ℕ → ℕ → Parse Items
@@ -130,12 +125,12 @@ repeats key [] = false
 repeats key (k ∷ ks) = same k key || repeats key ks
 
 -- a key: its content's offset, and its content
-pub record Key : Type 0 where
+pub record KeyText : Type 0 where
   pub start : ℕ
   pub content : List ℕ
 
 -- the String's checks, "then 12"
-abbrev pub keyOf : List ℕ → List (List ℕ) → ℕ → Extent → Parse Key
+abbrev pub keyOf : List ℕ → List (List ℕ) → ℕ → Extent → Parse KeyText
 keyOf s seen at (E.Leaf k p n) =
     cond (utf8 (part s p n))
     (cond (repeats (part s p n) seen) (failed DuplicateKey at) (parsed (record { start = p; content = part s p n }) (p + n)))
@@ -143,7 +138,7 @@ keyOf s seen at (E.Leaf k p n) =
 keyOf s seen at (E.Container k p n) = failed KeyNotString at
 keyOf s seen at (E.Refused why place) = failed why place
 
-unfoldable pub keyAt : List ℕ → List (List ℕ) → ℕ → Parse Key
+unfoldable pub keyAt : List ℕ → List (List ℕ) → ℕ → Parse KeyText
 keyAt s seen at = keyOf s seen at (keyExtentAt s at)
 
 -- n entries from `at` on, each value read by f; `seen` are the keys before them in this dictionary
@@ -153,13 +148,16 @@ entries s f seen (suc n) at =
     andThen (keyAt s seen at) (λ k p. andThen (f p) (λ v q.
     mapped (entry at (k .start) (k .content) p v) (entries s f (k .content ∷ seen) n q)))
 
--- n things from p on in the container whose marker is at `at`: values; keys and values; "a tag byte, then the fields", and "tag bytes
--- missing 7"
+-- "then a tag byte, then the fields"; "tag bytes missing 7"
+abbrev pub structureAt : List ℕ → (ℕ → Parse Value) → ℕ → ℕ → ℕ → Parse Value
+structureAt s f at p n =
+    cond (ltb p (length s)) (mapped (structure (getD s p 0)) (items f n (p + 1))) (failed ValueTruncated at)
+
+-- the container whose marker is at `at`, with n things in it from p on
 abbrev pub containerAt : List ℕ → (ℕ → Parse Value) → ℕ → Container → ℕ → ℕ → Parse Value
 containerAt s f at C.List p n = mapped list (items f n p)
 containerAt s f at C.Dictionary p n = mapped dictionary (entries s f [] n p)
-containerAt s f at C.Structure p n =
-    cond (ltb p (length s)) (mapped (structure (getD s p 0)) (items f n (p + 1))) (failed ValueTruncated at)
+containerAt s f at C.Structure p n = structureAt s f at p n
 
 abbrev pub valueOf : List ℕ → (ℕ → Parse Value) → ℕ → Extent → Parse Value
 valueOf s f at (E.Leaf k p n) = leafAt s at k p n

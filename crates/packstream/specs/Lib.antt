@@ -1,5 +1,6 @@
 pub mod Value
 pub mod Marker
 pub mod Decode
+pub mod Keys
 pub mod Reading
 pub mod Cases

@@ -2,11 +2,12 @@
 ghost use mathlib.Core.Path.{_≡_};
 ghost use Prim.Native.Nat.{_≤_, _<_};
 ghost use lib.ListN.{length};
-ghost use Rattle.packstream.specs.Decode.{sizeAt, isString, leafExtent, containerExtent, extentAt, keyExtentAt};
+ghost use Rattle.packstream.specs.Decode.{sizeAt, leafExtent, containerExtent, extentAt, keyExtentAt};
 use crate::marker::Container;
 use crate::marker::Kind;
 use crate::marker::Leaf;
 use crate::marker::Marker;
+use crate::marker::is_string;
 use crate::marker::split;
 use numbers::Unsigned;
 use refusal::Refusal;
@@ -29,6 +30,12 @@ pub enum Extent {
         refusal: Refusal,
         place: usize,
     },
+}
+
+// What is read where a key is wanted: where its content lies.
+pub enum Key {
+    String { start: usize, size: usize },
+    Refused { refusal: Refusal, place: usize },
 }
 
 fn refused(refusal: Refusal, place: usize) -> Extent
@@ -103,19 +110,6 @@ pub fn extent_at(message: &[u8], at: usize, depth: usize) -> Extent
             }
             container_extent(message, at, container, marker)
         }
-    }
-}
-
-fn is_string(kind: Leaf) -> bool
-    ensures { λ r. ⌜ r ≡ isString kind ⌝ }
-{
-    match kind {
-        Leaf::Null => false,
-        Leaf::Boolean => false,
-        Leaf::Integer => false,
-        Leaf::Float => false,
-        Leaf::Bytes => false,
-        Leaf::String => true,
     }
 }
 

@@ -1,15 +1,13 @@
 -- `packstream::extent::container_extent` meets its contract. Assumes nothing.
 use mathlib.Core.Path.{_≡_, sym, _∙_, subst}
-use mathlib.Core.List.{[], _∷_}
 use native.Mathlib.Omega.{arith}
 use borrow.Author.Needs.{needs}
 use denote.Enum.Declared.{tagOf}
-use types.Run.{OneOf}
 use Rattle.numbers.specs.declared.Unsigned.{Unsigned}
 use Rattle.numbers.specs.declared.Unsigned.the-variants as U
 use Rattle.numbers.proofs.Unsigned as Un
 use Rattle.packstream.specs.Decode.{sizeAt}
-use Rattle.packstream.proofs.Extents.{size-inside, container-unsized, container-there}
+use Rattle.packstream.proofs.Extents.{NoNumber, size-inside, container-unsized, container-there}
 use Rattle.packstream.proofs.extent.container_extent.Statement.{statement}
 use Rattle.packstream.proofs.extent.container_extent.Tie as tie
 
@@ -27,7 +25,7 @@ returns c =
     let a = c .before .before .before .before .args in
     let e = c .before .before .size-at .ensures in
     c .refused .ensures
-    ∙ container-unsized (a .message .now) (a .at) (a .marker) (a .kind) (subst (λ (u : Unsigned). OneOf (1 ∷ 2 ∷ []) (tagOf Un.the-type u)) e (c .before .match .keys2))
+    ∙ container-unsized (a .message .now) (a .at) (a .marker) (a .kind) (subst (λ (u : Unsigned). NoNumber (tagOf Un.the-type u)) e (c .before .match .keys2))
 
 -- the size that was found
 found : (c : tie.After-n) → let a = c .before .before .before .before .args in U.Number (c .n .given .0 .0) ≡ sizeAt (a .message .now) (a .at) (a .marker)

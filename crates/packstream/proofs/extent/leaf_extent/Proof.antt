@@ -1,17 +1,15 @@
 -- `packstream::extent::leaf_extent` meets its contract. Assumes nothing.
 use mathlib.Core.Path.{_≡_, sym, ap, _∙_, subst}
-use mathlib.Core.List.{[], _∷_}
 use Prim.Native.Nat.{_+_, _≤_}
 use native.Mathlib.Omega.{arith}
 use borrow.Author.Needs.{needs}
 use denote.Enum.Declared.{tagOf}
 use lib.ListN.{length}
-use types.Run.{OneOf}
 use Rattle.numbers.specs.declared.Unsigned.{Unsigned}
 use Rattle.numbers.specs.declared.Unsigned.the-variants as U
 use Rattle.numbers.proofs.Unsigned as Un
 use Rattle.packstream.specs.Decode.{sizeAt}
-use Rattle.packstream.proofs.Extents.{size-inside, leaf-unsized, leaf-short, leaf-there}
+use Rattle.packstream.proofs.Extents.{NoNumber, size-inside, leaf-unsized, leaf-short, leaf-there}
 use Rattle.packstream.proofs.extent.leaf_extent.Statement.{statement}
 use Rattle.packstream.proofs.extent.leaf_extent.Tie as tie
 
@@ -29,7 +27,7 @@ returns c =
     let a = c .before .before .before .before .args in
     let e = c .before .before .size-at .ensures in
     c .refused .ensures
-    ∙ leaf-unsized (a .message .now) (a .at) (a .marker) (a .kind) (subst (λ (u : Unsigned). OneOf (1 ∷ 2 ∷ []) (tagOf Un.the-type u)) e (c .before .match .keys2))
+    ∙ leaf-unsized (a .message .now) (a .at) (a .marker) (a .kind) (subst (λ (u : Unsigned). NoNumber (tagOf Un.the-type u)) e (c .before .match .keys2))
 
 -- the size that was found
 found : (c : tie.After-n) → let a = c .before .before .before .before .args in U.Number (c .n .given .0 .0) ≡ sizeAt (a .message .now) (a .at) (a .marker)
