@@ -2,5 +2,7 @@ pub mod Markers
 pub mod Extents
 pub mod Leaves
 pub mod KeySearch
-pub mod Walk
 pub mod Scratch
+pub mod Steps
+pub mod Answers
+pub mod Passing

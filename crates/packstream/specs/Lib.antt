@@ -3,4 +3,5 @@ pub mod Marker
 pub mod Decode
 pub mod Keys
 pub mod Reading
+pub mod Walk
 pub mod Cases

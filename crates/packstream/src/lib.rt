@@ -5,3 +5,4 @@ mod leaf;
 pub mod marker;
 pub mod read;
 mod value;
+pub mod walk;
