@@ -1,0 +1,54 @@
+-- Values at the edges: document 01, "Cases at the edges", with some more of our own, in one table under one statement. Assumes nothing.
+use mathlib.Core.Path.{_≡_, refl}
+use mathlib.Core.List.{List, [], _∷_, _++_, map}
+use Prim.Native.Nat.{ℕ}
+use lib.Count.{leadingZeros}
+use lib.IntN.{pos, negsuc}
+use lib.ListN.{replicate}
+use Rattle.numbers.specs.BigEndian.{bigEndian}
+use Rattle.numbers.specs.TwosComplement.{twos}
+use Rattle.numbers.specs.Access.{unsignedAt}
+use Rattle.utf8.specs.Utf8.{utf8, sequencesFrom, sequence, completes}
+use Rattle.refusal.specs.Answer.{Answer, result, refused}
+use Rattle.packstream.specs.Value.{Value, integer, string, dictionary, structure, no-items, item, no-entries, entry}
+use Rattle.packstream.specs.Marker.{markerOf, lookup}
+use Rattle.packstream.specs.Decode.{decode, messageOf, valueIn, valueAt, items, entries, keyAt, keyExtentAt, extentAt, leafExtent, containerExtent, leafAt, leafValue, same, repeats}
+
+record Case : Type 0 where
+  message : List ℕ
+  answer : Answer Value
+
+abbrev is : List ℕ → Answer Value → Case
+is m a = record { message = m; answer = a }
+
+abbrev cases : List Case
+cases =
+    -- ★
+    is [] (refused 7 0)
+    ∷ is (0x7F ∷ []) (result (integer (pos 127)))
+    ∷ is (0xF0 ∷ []) (result (integer (negsuc 15)))
+    ∷ is (0xC8 ∷ 0x80 ∷ []) (result (integer (negsuc 127)))
+    ∷ is (0xEF ∷ []) (refused 8 0)
+    ∷ is (0xC0 ∷ 0xC0 ∷ []) (refused 13 1)
+    ∷ is (0x82 ∷ 0xC3 ∷ []) (refused 7 0)
+    ∷ is (0xA2 ∷ 0x81 ∷ 0x61 ∷ 0x01 ∷ 0xD0 ∷ 0x01 ∷ 0x61 ∷ 0x02 ∷ []) (refused 12 4)
+    ∷ is (0x81 ∷ 0x80 ∷ []) (refused 10 0)
+    ∷ is (0x82 ∷ 0xC3 ∷ 0xA9 ∷ []) (result (string 1 (0xC3 ∷ 0xA9 ∷ [])))
+    ∷ is (0xB1 ∷ 0x70 ∷ 0xA1 ∷ 0x83 ∷ 0x71 ∷ 0x69 ∷ 0x64 ∷ 0x05 ∷ [])
+    (result (structure 0x70 (item 2 (dictionary (entry 3 4 (0x71 ∷ 0x69 ∷ 0x64 ∷ []) 7 (integer (pos 5)) no-entries)) no-items)))
+    -- a missing marker's place is the message length; a key that is no String; a tag that is missing
+    ∷ is (0x92 ∷ 0x01 ∷ []) (refused 7 2)
+    ∷ is (0xA1 ∷ 0x90 ∷ []) (refused 11 1)
+    ∷ is (0xB0 ∷ []) (refused 7 0)
+    -- depth is checked before size, and a seventeenth container is refused even if empty
+    ∷ is (replicate 16 0x91) (refused 7 16)
+    ∷ is (replicate 16 0x91 ++ 0x90 ∷ []) (refused 9 16)
+    ∷ is (replicate 16 0x91 ++ 0xD4 ∷ []) (refused 9 16)
+    -- sizes claimed with their content missing
+    ∷ is (0xCE ∷ 0xFF ∷ 0xFF ∷ 0xFF ∷ 0xFF ∷ []) (refused 7 0)
+    ∷ is (0xD6 ∷ 0xFF ∷ 0xFF ∷ 0xFF ∷ 0xFF ∷ []) (refused 7 5)
+    ∷ []
+
+pub hold : map (λ c. decode (c .message)) cases ≡ map (λ c. c .answer) cases
+unfolding messageOf valueIn valueAt items entries keyAt keyExtentAt extentAt leafExtent containerExtent leafAt leafValue same repeats markerOf lookup unsignedAt bigEndian twos utf8 sequencesFrom sequence completes leadingZeros
+hold = refl
