@@ -1,7 +1,7 @@
 -- Laws of lines: digits and their values, one more pair of digits, and which answer is given. Assumes nothing.
 use mathlib.Core.Path.{_≡_, refl, sym, ap, _∙_}
 use mathlib.Core.Logic.{⊎-elim}
-use mathlib.Core.Bool.{Bool, true, false, false≢true, not, _&&_, _||_, and-false, and-eq-true-iff}
+use mathlib.Core.Bool.{Bool, true, false, false≢true, not, cond, _&&_, _||_, and-false, and-eq-true-iff}
 use mathlib.Core.List.{List, [], _∷_}
 use Prim.Native.Nat.{ℕ, zero, suc, _+_, _*_, _/_, _%_, _<_, _≤_}
 use native.Mathlib.Numerals.{add-one}
@@ -9,13 +9,13 @@ use native.Mathlib.Omega.{arith}
 use lib.Dec.{eqb, ltb, leb}
 use lib.ListN.{length, getD, set, drop, length-drop, drop-of-length-le}
 use lib.Seq.{drop-cons}
-use borrow.Author.Tests.{le-leb, lt-leb, lt-ltb, le-ltb, eq-eqb, ne-eqb, eqb-true, ltb-true}
+use borrow.Author.Tests.{le-leb, lt-leb, lt-ltb, le-ltb, eq-eqb, ne-eqb, eqb-true, ltb-true, ltb-false}
 use Rattle.slices.specs.Parts.{front}
 use Rattle.slices.proofs.Below.{every, below}
 use Rattle.slices.proofs.Pieces.{Put, put-next, put-done}
 use Rattle.slices.proofs.Tests.{lt-or-ge}
-use Rattle.refusal.specs.Answer.{result, refused}
-use Rattle.hex.specs.Hex.{isDigit, valueOf, digitOf, allDigits, isLine, toBytes, toDigits, decoding, encoding}
+use Rattle.refusal.specs.Answer.{result, refused, counted}
+use Rattle.hex.specs.Hex.{isDigit, valueOf, digitOf, allDigits, isLine, toBytes, toDigits, into, decoding, encoding}
 
 -- ---- digits
 -- no character past 'F' is a digit
@@ -211,3 +211,26 @@ module _ (room : ℕ) (v : List ℕ) where
   pub written : length v ≤ room / 2 → encoding room v ≡ result (toDigits v)
   unfolding encoding
   written h = simp (length-digits v, le-ltb room (2 * length v) (omega arith))
+
+-- ---- what was written lies inside the buffer
+pub clash : _≡_ {A = ℕ} 0 1 → ⊥
+clash z = omega arith
+
+into-fits : (room : ℕ) (v : List ℕ) {n : ℕ} → result n ≡ counted (into room v) → n ≤ room
+into-fits room v {n} e = by (ltb room (length v)) refl e
+  where
+    by : (t : Bool) → ltb room (length v) ≡ t → result n ≡ counted (cond t (refused 21 0) (result v)) → n ≤ room
+    by true k e = absurd (clash (cc))
+    by false k e = let l : n ≡ length v = cc in omega (arith, ltb-false room (length v) k)
+
+pub decoded-fits : (room : ℕ) (s : List ℕ) {n : ℕ} → result n ≡ counted (decoding room s) → n ≤ room
+unfolding decoding
+decoded-fits room s {n} e = by (isLine s) e
+  where
+    by : (t : Bool) → result n ≡ counted (cond t (into room (toBytes s)) (refused 23 0)) → n ≤ room
+    by true e = into-fits room (toBytes s) e
+    by false e = absurd (clash (cc))
+
+pub encoded-fits : (room : ℕ) (v : List ℕ) {n : ℕ} → result n ≡ counted (encoding room v) → n ≤ room
+unfolding encoding
+encoded-fits room v e = into-fits room (toDigits v) e

@@ -10,10 +10,7 @@ use Rattle.numbers.specs.BigEndian.{Bytes}
 use Rattle.refusal.specs.Answer.{result, refused}
 use Rattle.hex.specs.Hex.{isDigit, valueOf, digitOf, allDigits, isLine, toBytes, toDigits, into, decoding, encoding}
 use Rattle.hex.specs.RoundTrip.{RoundTrip}
-use Rattle.hex.proofs.Lines.{value-lt, digit-value, digit-is, value-digit, line-even, line-pairs, length-bytes, length-digits, read, written}
-
-clash : _≡_ {A = ℕ} 0 1 → ⊥
-clash z = omega arith
+use Rattle.hex.proofs.Lines.{clash, value-lt, digit-value, digit-is, value-digit, line-even, line-pairs, length-bytes, length-digits, read, written}
 
 -- a result is the whole output
 into-result : (room : ℕ) (v : List ℕ) {w : List ℕ} → into room v ≡ result w → v ≡ w
