@@ -1,5 +1,7 @@
 pub mod Bools
 pub mod Calls
+pub mod Demand3
+pub mod Invariant
 pub mod Keeping
 pub mod Lengths
 pub mod Lists

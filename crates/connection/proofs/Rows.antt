@@ -9,7 +9,8 @@ use Rattle.connection.specs.declared.record.State.{State}
 use Rattle.connection.specs.declared.record.State.the-variants.{Connected, Ready, Streaming, TxReady, TxStreaming, Failed, Interrupted, Defunct}
 use Rattle.connection.specs.declared.record.Request.{Request}
 use Rattle.connection.specs.Requests.{Kind, HELLO, GOODBYE, RESET, RUN, BEGIN, COMMIT, ROLLBACK, DISCARD, PULL, rank, inState, inTransaction, isKind, is, fetching, fetches, kindOf}
-use Rattle.connection.specs.Appendix.{success, more, last, last-of-several, failure, newState, handsOver, ignores}
+use Rattle.connection.specs.Appendix.{Response, success, more, last, last-of-several, failure, ignored, newState, handsOver, ignores, handedSomewhere}
+use Rattle.connection.specs.Rules.{works}
 use Rattle.connection.specs.Parts.{lastState, failureState}
 use Rattle.connection.proofs.Bools.{and-left, and-right, and-both, not-no, same-alike}
 
@@ -183,3 +184,56 @@ after-batch s k left h f = by-left (eqb left 0)
     by-left : (b : Bool) → cond b (cond (inState s Streaming) Ready TxReady) s ≡ newState s k (cond b last last-of-several)
     by-left true = sym (after-last s k (and-both (handsOver s k) (fetching k) h f))
     by-left false = sym (after-several s k)
+
+-- ---- what follows from a test, for every state and kind
+follows : (h f : State → Kind → Bool) → allKinds (λ (k : Kind). allStates (λ (s : State). not (h s k) || f s k)) ≡ true → (s : State) (k : Kind) → h s k ≡ true → f s k ≡ true
+follows h f e s k t = sym (ap (λ (b : Bool). not b || f s k) t) ∙ each (λ (s : State) (k : Kind). not (h s k) || f s k) e s k
+
+-- nothing is handed over in FAILED or INTERRUPTED
+pub hands-running : (s : State) (k : Kind) → handsOver s k ≡ true → (inState s Failed || inState s Interrupted) ≡ false
+unfolding handsOver allStates allKinds
+hands-running s k h = not-no _ (follows handsOver (λ (s : State) (k : Kind). not (inState s Failed || inState s Interrupted)) refl s k h)
+
+-- what is handed over is no RESET
+pub hands-calm : (s : State) (k : Kind) → handsOver s k ≡ true → isKind k RESET ≡ false
+unfolding handsOver allStates allKinds
+hands-calm s k h = not-no _ (follows handsOver (λ (s : State) (k : Kind). not (isKind k RESET)) refl s k h)
+
+-- what is handed over is work, but for HELLO in CONNECTED
+pub hands-work : (s : State) (k : Kind) → handsOver s k ≡ true → inState s Connected ≡ false → works k ≡ true
+unfolding handsOver works handedSomewhere allStates allKinds
+hands-work s k h a = follows (λ (s : State) (k : Kind). handsOver s k && not (inState s Connected)) (λ (s : State) (k : Kind). works k) refl s k (and-both (handsOver s k) (not (inState s Connected)) h (ap not a))
+
+-- work is no RESET
+pub works-calm : (k : Kind) → works k ≡ true → isKind k RESET ≡ false
+unfolding handsOver works handedSomewhere allStates allKinds
+works-calm k h = not-no _ (follows (λ (s : State) (k : Kind). works k) (λ (s : State) (k : Kind). not (isKind k RESET)) refl Ready k h)
+
+-- a report does not interrupt
+pub new-calm : (s : State) (k : Kind) (r : Response) → handsOver s k ≡ true → inState (newState s k r) Interrupted ≡ false
+unfolding handsOver newState allStates allKinds
+new-calm s k r h = not-no _ (by-response r)
+  where
+    by-response : (r : Response) → not (inState (newState s k r) Interrupted) ≡ true
+    by-response success = follows handsOver (λ (s : State) (k : Kind). not (inState (newState s k success) Interrupted)) refl s k h
+    by-response more = follows handsOver (λ (s : State) (k : Kind). not (inState (newState s k more) Interrupted)) refl s k h
+    by-response last = follows handsOver (λ (s : State) (k : Kind). not (inState (newState s k last) Interrupted)) refl s k h
+    by-response last-of-several = follows handsOver (λ (s : State) (k : Kind). not (inState (newState s k last-of-several) Interrupted)) refl s k h
+    by-response failure = follows handsOver (λ (s : State) (k : Kind). not (inState (newState s k failure) Interrupted)) refl s k h
+    by-response ignored = follows handsOver (λ (s : State) (k : Kind). not (inState (newState s k ignored) Interrupted)) refl s k h
+
+-- a RUN that opens a stream leads to TX_STREAMING
+pub run-streams : (s : State) (k : Kind) → handsOver s k ≡ true → (isKind k RUN && inTransaction s) ≡ true → inState (newState s k success) TxStreaming ≡ true
+unfolding handsOver newState allStates allKinds
+run-streams s k h e =
+    follows (λ (s : State) (k : Kind). handsOver s k && (isKind k RUN && inTransaction s)) (λ (s : State) (k : Kind). inState (newState s k success) TxStreaming) refl s k
+    (and-both (handsOver s k) (isKind k RUN && inTransaction s) h e)
+
+-- any other success that fetches nothing comes from a state with no stream open, and leads to one
+pub rest-streams : (s : State) (k : Kind) → handsOver s k ≡ true → fetching k ≡ false → (isKind k RUN && inTransaction s) ≡ false
+    → (inState (newState s k success) TxStreaming || inState s TxStreaming) ≡ false
+unfolding handsOver newState allStates allKinds
+rest-streams s k h f e =
+    not-no _ (follows (λ (s : State) (k : Kind). handsOver s k && (not (fetching k) && not (isKind k RUN && inTransaction s)))
+    (λ (s : State) (k : Kind). not (inState (newState s k success) TxStreaming || inState s TxStreaming)) refl s k
+    (and-both (handsOver s k) (not (fetching k) && not (isKind k RUN && inTransaction s)) h (and-both (not (fetching k)) (not (isKind k RUN && inTransaction s)) (ap not f) (ap not e))))

@@ -124,11 +124,11 @@ turnOf s o r =
     U.Closes))
 
 -- the first is answered: ws wait now, and one summary more is sent
+abbrev pub counted : Table → State → Open → List Request → Table
+counted t s o ws = record { state = s; waiting = ws; inFlight = false; streams = o; accepted = t .accepted; sent = t .sent + 1 }
+
 abbrev pub answer : Table → State → Open → List Request → Summary → Done
-answer t s o ws summary = record {
-  table = record { state = s; waiting = ws; inFlight = false; streams = o; accepted = t .accepted; sent = t .sent + 1 };
-  said = answered summary (t .sent + 1);
-}
+answer t s o ws summary = record { table = counted t s o ws; said = answered summary (t .sent + 1) }
 
 -- the turn of r, with ws behind it
 abbrev pub taken : Turn → Table → Request → List Request → Done
