@@ -14,9 +14,9 @@ use Rattle.slices.proofs.Parts.{length-part, fits-yes}
 use Rattle.slices.proofs.Pieces.{Put, put-none, put-fits, put-next, put-done}
 use Rattle.numbers.specs.BigEndian.{bytesOf}
 use Rattle.numbers.proofs.BigEndian.{bytesOf-two}
-use Rattle.refusal.specs.Answer.{Answer, result, refused, left}
+use Rattle.refusal.specs.Answer.{Answer, result, refused, counted, left}
 use Rattle.framing.specs.Feed.{most}
-use Rattle.framing.specs.Chunking.{chunkOf, end, remainder, wholes, chunked, writing, telling}
+use Rattle.framing.specs.Chunking.{chunkOf, end, remainder, wholes, chunked, writing}
 
 -- ---- one chunk
 pub length-chunk : (v : List ℕ) → length (chunkOf v) ≡ length v + 2
@@ -192,5 +192,5 @@ module _ (c room : ℕ) (m : List ℕ) where
           written h = simp (ne-eqb (length m) 0 some, ne-eqb c 0 pos, le-ltb 65535 c narrow, le-ltb most (length m) short, le-ltb room (length (chunked c m)) h)
 
 -- what the writer answers and leaves, from the case of `writing` that holds
-pub answered : (x y : Answer (List ℕ)) (t : Answer ℕ) (d e : List ℕ) → x ≡ y → t ≡ telling y → e ≡ left front y d → (t ≡ telling x) × (e ≡ left front x d)
-answered x y t d e p q r = (q ∙ sym (ap telling p), r ∙ sym (ap (λ (z : Answer (List ℕ)). left front z d) p))
+pub answered : (x y : Answer (List ℕ)) (t : Answer ℕ) (d e : List ℕ) → x ≡ y → t ≡ counted y → e ≡ left front y d → (t ≡ counted x) × (e ≡ left front x d)
+answered x y t d e p q r = (q ∙ sym (ap counted p), r ∙ sym (ap (λ (z : Answer (List ℕ)). left front z d) p))

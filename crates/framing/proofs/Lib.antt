@@ -5,3 +5,4 @@ pub mod Telling
 pub mod Chunking
 pub mod RoundTrip
 pub mod Places
+pub mod Fitting

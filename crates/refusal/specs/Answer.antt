@@ -2,8 +2,10 @@
 -- and changes nothing"; "Values": "Refusals other than 7 to 16 give place 0"). Assumes nothing.
 use Prim.Native.Nat.{ℕ}
 use mathlib.Core.Bool.{Bool, false, _&&_}
+use mathlib.Core.List.{List}
 use mathlib.Core.Path.{_≡_}
 use lib.Dec.{leb}
+use lib.ListN.{length}
 
 -- a result, or a refusal with its number and its place
 pub data Answer (A : Type 0) : Type 0 where
@@ -14,6 +16,11 @@ pub data Answer (A : Type 0) : Type 0 where
 abbrev pub consumed : {A : Type 0} → (A → ℕ) → Answer A → ℕ
 consumed used (result a) = used a
 consumed used (refused number place) = 0
+
+-- what a writer tells its caller: how many bytes it wrote
+abbrev pub counted : Answer (List ℕ) → Answer ℕ
+counted (result v) = result (length v)
+counted (refused number place) = refused number place
 
 -- what stands in lent memory, or in the record, afterwards: what the result leaves there, or what stood there before
 abbrev pub left : {A B : Type 0} → (A → B → B) → Answer A → B → B
