@@ -6,3 +6,4 @@ pub mod Scratch
 pub mod Steps
 pub mod Answers
 pub mod Passing
+pub mod Embedding
