@@ -2,13 +2,13 @@
 -- room for open containers. Assumes nothing.
 use mathlib.Core.Path.{_≡_, refl, sym, ap, ap₂, _∙_, subst}
 use mathlib.Core.Bool.{Bool, true, false, cond}
-use mathlib.Core.List.{List, [], _∷_}
+use mathlib.Core.List.{List, [], _∷_, _++_}
 use Prim.Native.Nat.{ℕ, zero, suc, _+_, _-_, _≤_, _<_}
 use native.Mathlib.Omega.{arith}
 use borrow.Author.Tests.{lt-ltb}
 use lib.Dec.{eqb}
-use lib.ListN.{length, getD, take, drop}
-use lib.Seq.{take-nil, take-take, drop-drop}
+use lib.ListN.{length, getD, take, drop, length-append}
+use lib.Seq.{take-nil, take-take, take-at, take-length, drop-drop, drop-append-seam}
 use Rattle.slices.specs.Parts.{part}
 use Rattle.slices.proofs.Parts.{getD-part}
 use Rattle.utf8.specs.Utf8.{utf8}
@@ -30,6 +30,7 @@ use Rattle.packstream.specs.declared.marker.Kind.the-variants as K
 use Rattle.packstream.specs.declared.marker.Marker.{Marker}
 use Rattle.packstream.specs.declared.extent.Extent.{Extent}
 use Rattle.packstream.specs.declared.extent.Extent.the-variants as E
+use Rattle.packstream.proofs.Offsets.{relocate-same}
 use Rattle.packstream.proofs.Extents as X
 use Rattle.packstream.proofs.Extents.{Marked, ExtentTells, extent-tells, leaf-extent-is, container-extent-is, key-extent-is, key-as-string, Inside, extent-inside, room-for}
 use Rattle.packstream.proofs.Leaves.{boolean-size, leaf-text}
@@ -230,3 +231,40 @@ module _ (s t : List ℕ) (k : ℕ) (lies : Lies s t k) where
   value-embeds (suc d) e l at v q f =
       let m : suc d - 1 ≡ d = omega arith in
       value-step (suc d) e l (λ h p w r g. value-embeds d (e - 1) (omega arith) p w r (rw m at g)) at (value-tells s (suc d) at) v q f
+
+-- ---- a value with others after it, and with more room
+none-before : (n : ℕ) → 0 + n ≡ n
+none-before n = omega arith
+
+-- what is followed by more bytes lies in front of them
+pub lies-before : (s t : List ℕ) → Lies s (s ++ t) 0
+lies-before s t = record { bytes = take-at s t (length s) refl; inside = omega (arith, length-append s t) }
+
+-- what stands between others
+pub lies-between : (r s t : List ℕ) → Lies s (r ++ (s ++ t)) (length r)
+lies-between r s t =
+    record {
+      bytes = ap (take (length s)) (drop-append-seam r (s ++ t)) ∙ take-at s t (length s) refl;
+      inside = omega (arith, length-append r (s ++ t), length-append s t);
+    }
+
+pub lies-itself : (s : List ℕ) → Lies s s 0
+lies-itself s = record { bytes = take-length s; inside = omega arith }
+
+module _ (s t : List ℕ) (lies : Lies s t 0) (d e : ℕ) (l : d ≤ e) (at : ℕ) where
+  -- the end of a value does not depend on what follows it, nor on how much room there is
+  pub value-in-front : (v : Value) (q : ℕ) → valueAt s d at ≡ parsed v q → valueAt t e at ≡ parsed v q
+  value-in-front v q f =
+      let g = value-embeds s t 0 lies d e l at v q f in
+      ap (valueAt t e) (sym (none-before at)) ∙ g ∙ ap₂ (λ (w : Value) (n : ℕ). parsed w n) (relocate-same (λ n. 0 + n) none-before v) (none-before q)
+
+module _ (s : List ℕ) (d e at : ℕ) where
+  pub leaf-any-room : (j : Leaf) (p n : ℕ) → E.Leaf j p n ≡ extentAt s d at → E.Leaf j p n ≡ extentAt s e at
+  leaf-any-room j p n x =
+      let g = leaf-embeds s s 0 (lies-itself s) d e at j p n x in
+      ap (λ (q : ℕ). E.Leaf j q n) (sym (none-before p)) ∙ g ∙ ap (extentAt s e) (none-before at)
+
+  pub container-more-room : d ≤ e → (j : Container) (p n : ℕ) → E.Container j p n ≡ extentAt s d at → E.Container j p n ≡ extentAt s e at
+  container-more-room l j p n x =
+      let g = container-embeds s s 0 (lies-itself s) d e at j p n l x in
+      ap (λ (q : ℕ). E.Container j q n) (sym (none-before p)) ∙ g ∙ ap (extentAt s e) (none-before at)
