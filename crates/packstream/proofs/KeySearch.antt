@@ -123,6 +123,10 @@ module _ (s : List ℕ) (seen : List (List ℕ)) (at : ℕ) where
     pub key-new : utf8 (part s p n) ≡ true → repeats (part s p n) seen ≡ false → Y.String p n ≡ keyOfParse (keyAt s seen at)
     key-new f g = rw (by-leaf, f, g, length-part s p n leaf-key-inside)
 
+    -- a new key is read
+    pub key-is : utf8 (part s p n) ≡ true → repeats (part s p n) seen ≡ false → keyAt s seen at ≡ parsed (record { start = p; content = part s p n }) (p + n)
+    key-is f g = rw (by-leaf, f, g)
+
 -- what the reading of a key tells
 pub data KeyTells (s : List ℕ) (seen : List (List ℕ)) (at : ℕ) : Parse KeyText → Type 0 where
   new : (k : Leaf) (p n : ℕ) → E.Leaf k p n ≡ keyExtentAt s at → utf8 (part s p n) ≡ true → repeats (part s p n) seen ≡ false

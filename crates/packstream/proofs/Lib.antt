@@ -6,3 +6,7 @@ pub mod Scratch
 pub mod Steps
 pub mod Answers
 pub mod Passing
+pub mod Offsets
+pub mod Embedding
+pub mod Placement
+pub mod Building

@@ -1,4 +1,4 @@
--- What is found in a message that was read already, with no look at text or at repeated keys. The laws (`proofs/Layout.antt`) say that where a
+-- What is found in a message that was read already, with no look at text or at repeated keys. The laws (`proofs/Placement.antt`) say that where a
 -- value can be read, its own head and end are found. Assumes nothing.
 use Prim.Native.Nat.{ℕ, zero, suc, _+_, _*_}
 use mathlib.Core.Bool.{cond}
