@@ -1,5 +1,6 @@
 // The versions of Bolt that are known. A version travels as four bytes, `00 00 minor major`.
 ghost use mathlib.Core.Path.{_≡_};
+ghost use lib.Dec.{leb};
 ghost use Rattle.handshake.specs.Version.{bytesOf, keepsAlive, proposed, namedBy};
 
 // A known version of Bolt 4. Its field is private: only the constants below, and what is read as one of them, are versions.
@@ -58,5 +59,12 @@ impl Version {
         ensures { λ r. ⌜ r ≡ keepsAlive (self .minor) ⌝ }
     {
         1 <= self.minor
+    }
+
+    // Whether it is `first` or a later version.
+    pub fn is_from(self, first: Version) -> bool
+        ensures { λ r. ⌜ r ≡ leb (first .minor) (self .minor) ⌝ }
+    {
+        first.minor <= self.minor
     }
 }

@@ -10,7 +10,7 @@ use Rattle.numbers.specs.Access.{unsignedAt}
 use Rattle.utf8.specs.Utf8.{utf8, sequencesFrom, sequence, completes}
 use Rattle.refusal.specs.Answer.{Answer, result, refused}
 use Rattle.packstream.specs.Marker.{markerOf, lookup}
-use Rattle.packstream.specs.Decode.{decode, messageOf, valueAt, items, entries, keyAt, keyExtentAt, extentAt, leafExtent, containerExtent, leafAt, leafValue, same, repeats}
+use Rattle.packstream.specs.Decode.{decode, messageOf, valueIn, valueAt, items, entries, keyAt, keyExtentAt, extentAt, leafExtent, containerExtent, leafAt, leafValue, same, repeats}
 use Rattle.messages.specs.View.{span, wrongIn, under}
 use Rattle.messages.specs.Requests.{requestOf, hello, transaction, batch, run, tagged}
 use Rattle.messages.specs.declared.request.Text.the-variants as T
@@ -87,5 +87,5 @@ cases =
     ∷ []
 
 pub hold : map (λ c. requestOf (c .minor) (decode (c .message))) cases ≡ map (λ c. c .answer) cases
-unfolding messageOf valueAt items entries keyAt keyExtentAt extentAt leafExtent containerExtent leafAt leafValue same repeats markerOf lookup unsignedAt bigEndian twos utf8 sequencesFrom sequence completes leadingZeros wrongIn under hello transaction batch run tagged
+unfolding messageOf valueIn valueAt items entries keyAt keyExtentAt extentAt leafExtent containerExtent leafAt leafValue same repeats markerOf lookup unsignedAt bigEndian twos utf8 sequencesFrom sequence completes leadingZeros wrongIn under hello transaction batch run tagged
 hold = refl

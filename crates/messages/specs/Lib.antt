@@ -3,3 +3,4 @@ pub mod View
 pub mod Checks
 pub mod Requests
 pub mod Cases
+pub mod Walk

@@ -15,6 +15,10 @@ use Rattle.messages.specs.declared.request.Request.the-variants as R
 use Rattle.messages.specs.declared.request.Reading.{Reading}
 use Rattle.messages.specs.declared.request.Reading.the-variants as Read
 use Rattle.messages.specs.declared.view.Entry.{Entry}
+use Rattle.messages.specs.declared.extra.CheckedTransaction.{CheckedTransaction}
+use Rattle.messages.specs.declared.extra.CheckedTransaction.the-variants as CT
+use Rattle.messages.specs.declared.extra.CheckedBatch.{CheckedBatch}
+use Rattle.messages.specs.declared.extra.CheckedBatch.the-variants as CB
 use Rattle.messages.specs.declared.checks.Range.the-variants.{Timeout, Records, Stream}
 
 -- ---- the extra of each request: what it asks of the entry under each name, in checking order; `at` is the Dictionary's marker
@@ -137,3 +141,11 @@ requestOf minor decoded = andThen decoded (requestIn minor)
 abbrev pub told : Reading → Answer Request
 told (Read.Request request) = result request
 told (Read.Refused fault) = refusedBy fault
+
+abbrev pub toldTransaction : CheckedTransaction → Answer Transaction
+toldTransaction (CT.Right t) = result t
+toldTransaction (CT.Wrong fault) = refusedBy fault
+
+abbrev pub toldBatch : CheckedBatch → Answer Batch
+toldBatch (CB.Right b) = result b
+toldBatch (CB.Wrong fault) = refusedBy fault

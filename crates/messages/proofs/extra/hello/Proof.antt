@@ -1,0 +1,227 @@
+-- `messages::extra::hello` meets its contract: the checks before the one that decides were right. Assumes nothing.
+use mathlib.Core.Path.{_≡_, ap, _∙_}
+use mathlib.Core.Bool.{cond}
+use native.Mathlib.Omega.{arith}
+use lib.Dec.{leb}
+use lib.ListN.{getD}
+use borrow.Author.Needs.{needs}
+use Rattle.messages.specs.Names as Name
+use Rattle.messages.specs.View.{absent}
+use Rattle.messages.specs.Checks.{stringIn, dictionaryIn, refusedBy, toldText, toldPlace}
+use Rattle.messages.specs.Requests.{hello}
+use Rattle.messages.specs.Walk.{entryAt, entryIn}
+use Rattle.messages.specs.declared.checks.CheckedText.{CheckedText}
+use Rattle.messages.specs.declared.checks.CheckedPlace.{CheckedPlace}
+use Rattle.messages.proofs.Extras.{entry-is, entry-since, checked}
+use Rattle.messages.proofs.extra.hello.Statement.{statement}
+use Rattle.messages.proofs.extra.hello.Tie as tie
+
+-- ---- what each check came to, from the place behind it
+agent : (d : tie.After-string-in) {r : CheckedText} → d .string-in .result ≡ r
+    → stringIn (entryIn (d .before .before .before .args .message .now) (d .before .before .before .args .t4) Name.user-agent) ≡ toldText r
+agent d g = let a = d .before .before .before .args in
+    checked toldText stringIn (d .string-in .ensures) (d .before .entry-at .ensures ∙ entry-is (a .message .now) (a .t4) 0 (omega arith)) g
+
+scheme : (d : tie.After-string-in2) {r : CheckedText} → d .string-in2 .result ≡ r
+    → stringIn (entryIn (d .before .before .before .before .before .before .before .before .before .before .before .args .message .now) (d .before .before .before .before .before .before .before .before .before .before .before .args .t4) Name.scheme) ≡ toldText r
+scheme d g = let a = d .before .before .before .before .before .before .before .before .before .before .before .args in
+    checked toldText stringIn (d .string-in2 .ensures) (d .before .entry-at2 .ensures ∙ entry-is (a .message .now) (a .t4) 1 (omega arith)) g
+
+principal : (d : tie.After-string-in3) {r : CheckedText} → d .string-in3 .result ≡ r
+    → stringIn (entryIn (d .before .before .before .before .before .before .before .before .before .before .before .before .before .before .before .before .args .message .now) (d .before .before .before .before .before .before .before .before .before .before .before .before .before .before .before .before .args .t4) Name.principal) ≡ toldText r
+principal d g = let a = d .before .before .before .before .before .before .before .before .before .before .before .before .before .before .before .before .args in
+    checked toldText stringIn (d .string-in3 .ensures) (d .before .entry-at3 .ensures ∙ entry-is (a .message .now) (a .t4) 2 (omega arith)) g
+
+credentials : (d : tie.After-string-in4) {r : CheckedText} → d .string-in4 .result ≡ r
+    → stringIn (entryIn (d .before .before .before .before .before .before .before .before .before .before .before .before .before .before .before .before .before .before .before .before .before .args .message .now) (d .before .before .before .before .before .before .before .before .before .before .before .before .before .before .before .before .before .before .before .before .before .args .t4) Name.credentials) ≡ toldText r
+credentials d g = let a = d .before .before .before .before .before .before .before .before .before .before .before .before .before .before .before .before .before .before .before .before .before .args in
+    checked toldText stringIn (d .string-in4 .ensures) (d .before .entry-at4 .ensures ∙ entry-is (a .message .now) (a .t4) 3 (omega arith)) g
+
+routing : (d : tie.After-dictionary-in) {r : CheckedPlace} → d .dictionary-in .result ≡ r
+    → dictionaryIn (cond (leb 1 (d .before .before .before .before .before .before .before .before .before .before .before .before .before .before .before .before .before .before .before .before .before .before .before .before .before .before .before .args .version .minor)) (entryIn (d .before .before .before .before .before .before .before .before .before .before .before .before .before .before .before .before .before .before .before .before .before .before .before .before .before .before .before .args .message .now) (d .before .before .before .before .before .before .before .before .before .before .before .before .before .before .before .before .before .before .before .before .before .before .before .before .before .before .before .args .t4) Name.routing) absent) ≡ toldPlace r
+routing d g = let a = d .before .before .before .before .before .before .before .before .before .before .before .before .before .before .before .before .before .before .before .before .before .before .before .before .before .before .before .args in
+    checked toldPlace dictionaryIn (d .dictionary-in .ensures)
+    (d .before .entry-at5 .ensures ∙ ap (entryAt (a .message .now)) (d .before .before .since .ensures)
+    ∙ entry-since (a .message .now) (leb 1 (a .version .minor)) (getD (a .t4) 4 0) (entryIn (a .message .now) (a .t4) Name.routing) (entry-is (a .message .now) (a .t4) 4 (omega arith))) g
+
+array-read-entry-at : tie.Need-array-read-entry-at
+array-read-entry-at c = search needs
+
+entry-at-requires : tie.Need-entry-at-requires
+entry-at-requires c κs = search needs
+
+string-in-requires : tie.Need-string-in-requires
+string-in-requires c κs = search needs
+
+enum-known-text : tie.Need-enum-known-text
+enum-known-text c = search needs
+
+enum-known-fault : tie.Need-enum-known-fault
+enum-known-fault c = search needs
+
+returns : tie.Need-returns
+unfolding hello
+returns c = rw (agent (c .before .before .before) (c .before .fault .given .1))
+
+enum-known-given : tie.Need-enum-known-given
+enum-known-given c = search needs
+
+enum-told : tie.Need-enum-told
+enum-told c = search needs
+
+invalid-requires : tie.Need-invalid-requires
+invalid-requires c κs = search needs
+
+returns-2 : tie.Need-returns-2
+unfolding hello
+returns-2 c = let t1 = c .before .before .before .before in
+    ap refusedBy (c .invalid .ensures) ∙ rw (agent (t1 .before .before) (t1 .text .given .1), c .before .enum-told .given .1)
+
+array-read-entry-at-2 : tie.Need-array-read-entry-at-2
+array-read-entry-at-2 c = search needs
+
+entry-at-requires-2 : tie.Need-entry-at-requires-2
+entry-at-requires-2 c κs = search needs
+
+string-in-requires-2 : tie.Need-string-in-requires-2
+string-in-requires-2 c κs = search needs
+
+enum-known-text-2 : tie.Need-enum-known-text-2
+enum-known-text-2 c = search needs
+
+enum-known-fault-2 : tie.Need-enum-known-fault-2
+enum-known-fault-2 c = search needs
+
+returns-3 : tie.Need-returns-3
+unfolding hello
+returns-3 c = let g = c .before .before .before .before .before .before in let t1 = g .before .before .before in
+    rw (agent (t1 .before .before) (t1 .text .given .1), g .given .given .1, scheme (c .before .before .before) (c .before .fault2 .given .1))
+
+array-read-entry-at-3 : tie.Need-array-read-entry-at-3
+array-read-entry-at-3 c = search needs
+
+entry-at-requires-3 : tie.Need-entry-at-requires-3
+entry-at-requires-3 c κs = search needs
+
+string-in-requires-3 : tie.Need-string-in-requires-3
+string-in-requires-3 c κs = search needs
+
+enum-known-text-3 : tie.Need-enum-known-text-3
+enum-known-text-3 c = search needs
+
+enum-known-fault-3 : tie.Need-enum-known-fault-3
+enum-known-fault-3 c = search needs
+
+returns-4 : tie.Need-returns-4
+unfolding hello
+returns-4 c = let t2 = c .before .before .before .before .before .before in let g = t2 .before .before .before .before .before in let t1 = g .before .before .before in
+    rw (agent (t1 .before .before) (t1 .text .given .1), g .given .given .1, scheme (t2 .before .before) (t2 .text2 .given .1), principal (c .before .before .before) (c .before .fault3 .given .1))
+
+array-read-entry-at-4 : tie.Need-array-read-entry-at-4
+array-read-entry-at-4 c = search needs
+
+entry-at-requires-4 : tie.Need-entry-at-requires-4
+entry-at-requires-4 c κs = search needs
+
+string-in-requires-4 : tie.Need-string-in-requires-4
+string-in-requires-4 c κs = search needs
+
+enum-known-text-4 : tie.Need-enum-known-text-4
+enum-known-text-4 c = search needs
+
+enum-known-fault-4 : tie.Need-enum-known-fault-4
+enum-known-fault-4 c = search needs
+
+returns-5 : tie.Need-returns-5
+unfolding hello
+returns-5 c = let t3 = c .before .before .before .before .before .before in let t2 = t3 .before .before .before .before .before in let g = t2 .before .before .before .before .before in let t1 = g .before .before .before in
+    rw (
+      agent (t1 .before .before) (t1 .text .given .1),
+      g .given .given .1,
+      scheme (t2 .before .before) (t2 .text2 .given .1),
+      principal (t3 .before .before) (t3 .text3 .given .1),
+      credentials (c .before .before .before) (c .before .fault4 .given .1),
+    )
+
+array-read-since : tie.Need-array-read-since
+array-read-since c = search needs
+
+since-requires : tie.Need-since-requires
+since-requires c κs = search needs
+
+entry-at-requires-5 : tie.Need-entry-at-requires-5
+entry-at-requires-5 c κs = search needs
+
+dictionary-in-requires : tie.Need-dictionary-in-requires
+dictionary-in-requires c κs = search needs
+
+enum-known-place : tie.Need-enum-known-place
+enum-known-place c = search needs
+
+enum-known-fault-5 : tie.Need-enum-known-fault-5
+enum-known-fault-5 c = search needs
+
+returns-6 : tie.Need-returns-6
+unfolding hello
+returns-6 c = let t4 = c .before .before .before .before .before .before .before in let t3 = t4 .before .before .before .before .before in let t2 = t3 .before .before .before .before .before in let g = t2 .before .before .before .before .before in let t1 = g .before .before .before in
+    rw (
+      agent (t1 .before .before) (t1 .text .given .1),
+      g .given .given .1,
+      scheme (t2 .before .before) (t2 .text2 .given .1),
+      principal (t3 .before .before) (t3 .text3 .given .1),
+      credentials (t4 .before .before) (t4 .text4 .given .1),
+      routing (c .before .before .before) (c .before .fault5 .given .1),
+    )
+
+returns-7 : tie.Need-returns-7
+unfolding hello
+returns-7 c = let t4 = c .before .before .before .before .before .before .before in let t3 = t4 .before .before .before .before .before in let t2 = t3 .before .before .before .before .before in let g = t2 .before .before .before .before .before in let t1 = g .before .before .before in
+    rw (
+      agent (t1 .before .before) (t1 .text .given .1),
+      g .given .given .1,
+      scheme (t2 .before .before) (t2 .text2 .given .1),
+      principal (t3 .before .before) (t3 .text3 .given .1),
+      credentials (t4 .before .before) (t4 .text4 .given .1),
+      routing (c .before .before .before) (c .before .place .given .1),
+    )
+
+pub hello-spec : {M : Type 1} → statement M
+hello-spec =
+    tie.close
+    (tie.spec
+    array-read-entry-at
+    entry-at-requires
+    string-in-requires
+    enum-known-text
+    enum-known-fault
+    returns
+    enum-known-given
+    enum-told
+    invalid-requires
+    returns-2
+    array-read-entry-at-2
+    entry-at-requires-2
+    string-in-requires-2
+    enum-known-text-2
+    enum-known-fault-2
+    returns-3
+    array-read-entry-at-3
+    entry-at-requires-3
+    string-in-requires-3
+    enum-known-text-3
+    enum-known-fault-3
+    returns-4
+    array-read-entry-at-4
+    entry-at-requires-4
+    string-in-requires-4
+    enum-known-text-4
+    enum-known-fault-4
+    returns-5
+    array-read-since
+    since-requires
+    entry-at-requires-5
+    dictionary-in-requires
+    enum-known-place
+    enum-known-fault-5
+    returns-6
+    returns-7)

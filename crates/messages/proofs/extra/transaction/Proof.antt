@@ -1,0 +1,203 @@
+-- `messages::extra::transaction` meets its contract: the checks before the one that decides were right. Assumes nothing.
+use mathlib.Core.Path.{_≡_, _∙_}
+use native.Mathlib.Omega.{arith}
+use borrow.Author.Needs.{needs}
+use Rattle.messages.specs.Names as Name
+use Rattle.messages.specs.Checks.{stringIn, dictionaryIn, listOfStringsIn, modeIn, integerIn, inRange, toldText, toldPlace, toldNumber, toldMode}
+use Rattle.messages.specs.Requests.{transaction}
+use Rattle.messages.specs.Walk.{entryIn}
+use Rattle.messages.specs.declared.checks.Range.the-variants.{Timeout}
+use Rattle.messages.specs.declared.checks.CheckedText.{CheckedText}
+use Rattle.messages.specs.declared.checks.CheckedPlace.{CheckedPlace}
+use Rattle.messages.specs.declared.checks.CheckedNumber.{CheckedNumber}
+use Rattle.messages.specs.declared.checks.CheckedMode.{CheckedMode}
+use Rattle.messages.proofs.Extras.{entry-is, checked}
+use Rattle.messages.proofs.extra.transaction.Statement.{statement}
+use Rattle.messages.proofs.extra.transaction.Tie as tie
+
+-- ---- what each check came to, from the place behind it
+bookmarks : (d : tie.After-list-of-strings-in) {r : CheckedPlace} → d .list-of-strings-in .result ≡ r
+    → listOfStringsIn (entryIn (d .before .before .before .args .message .now) (d .before .before .before .args .t2) Name.bookmarks) ≡ toldPlace r
+bookmarks d g = let a = d .before .before .before .args in
+    checked toldPlace listOfStringsIn (d .list-of-strings-in .ensures) (d .before .entry-at .ensures ∙ entry-is (a .message .now) (a .t2) 5 (omega arith)) g
+
+timeout : (d : tie.After-integer-in) {r : CheckedNumber} → d .integer-in .result ≡ r
+    → integerIn (inRange Timeout) (entryIn (d .before .before .before .before .before .before .before .before .args .message .now) (d .before .before .before .before .before .before .before .before .args .t2) Name.tx-timeout) ≡ toldNumber r
+timeout d g = let a = d .before .before .before .before .before .before .before .before .args in
+    checked toldNumber (integerIn (inRange Timeout)) (d .integer-in .ensures) (d .before .entry-at2 .ensures ∙ entry-is (a .message .now) (a .t2) 6 (omega arith)) g
+
+metadata : (d : tie.After-dictionary-in) {r : CheckedPlace} → d .dictionary-in .result ≡ r
+    → dictionaryIn (entryIn (d .before .before .before .before .before .before .before .before .before .before .before .before .before .args .message .now) (d .before .before .before .before .before .before .before .before .before .before .before .before .before .args .t2) Name.tx-metadata) ≡ toldPlace r
+metadata d g = let a = d .before .before .before .before .before .before .before .before .before .before .before .before .before .args in
+    checked toldPlace dictionaryIn (d .dictionary-in .ensures) (d .before .entry-at3 .ensures ∙ entry-is (a .message .now) (a .t2) 7 (omega arith)) g
+
+access : (d : tie.After-mode-in) {r : CheckedMode} → d .mode-in .result ≡ r
+    → modeIn (entryIn (d .before .before .before .before .before .before .before .before .before .before .before .before .before .before .before .before .before .before .args .message .now) (d .before .before .before .before .before .before .before .before .before .before .before .before .before .before .before .before .before .before .args .t2) Name.mode) ≡ toldMode r
+access d g = let a = d .before .before .before .before .before .before .before .before .before .before .before .before .before .before .before .before .before .before .args in
+    checked toldMode modeIn (d .mode-in .ensures) (d .before .entry-at4 .ensures ∙ entry-is (a .message .now) (a .t2) 8 (omega arith)) g
+
+db : (d : tie.After-string-in) {r : CheckedText} → d .string-in .result ≡ r
+    → stringIn (entryIn (d .before .before .before .before .before .before .before .before .before .before .before .before .before .before .before .before .before .before .before .before .before .before .before .args .message .now) (d .before .before .before .before .before .before .before .before .before .before .before .before .before .before .before .before .before .before .before .before .before .before .before .args .t2) Name.db) ≡ toldText r
+db d g = let a = d .before .before .before .before .before .before .before .before .before .before .before .before .before .before .before .before .before .before .before .before .before .before .before .args in
+    checked toldText stringIn (d .string-in .ensures) (d .before .entry-at5 .ensures ∙ entry-is (a .message .now) (a .t2) 9 (omega arith)) g
+
+array-read-entry-at : tie.Need-array-read-entry-at
+array-read-entry-at c = search needs
+
+entry-at-requires : tie.Need-entry-at-requires
+entry-at-requires c κs = search needs
+
+list-of-strings-in-requires : tie.Need-list-of-strings-in-requires
+list-of-strings-in-requires c κs = search needs
+
+enum-known-place : tie.Need-enum-known-place
+enum-known-place c = search needs
+
+enum-known-fault : tie.Need-enum-known-fault
+enum-known-fault c = search needs
+
+returns : tie.Need-returns
+unfolding transaction
+returns c = rw (bookmarks (c .before .before .before) (c .before .fault .given .1))
+
+array-read-entry-at-2 : tie.Need-array-read-entry-at-2
+array-read-entry-at-2 c = search needs
+
+entry-at-requires-2 : tie.Need-entry-at-requires-2
+entry-at-requires-2 c κs = search needs
+
+integer-in-requires : tie.Need-integer-in-requires
+integer-in-requires c κs = search needs
+
+enum-known-number : tie.Need-enum-known-number
+enum-known-number c = search needs
+
+enum-known-fault-2 : tie.Need-enum-known-fault-2
+enum-known-fault-2 c = search needs
+
+returns-2 : tie.Need-returns-2
+unfolding transaction
+returns-2 c = let t1 = c .before .before .before .before .before .before in
+    rw (bookmarks (t1 .before .before) (t1 .place .given .1), timeout (c .before .before .before) (c .before .fault2 .given .1))
+
+array-read-entry-at-3 : tie.Need-array-read-entry-at-3
+array-read-entry-at-3 c = search needs
+
+entry-at-requires-3 : tie.Need-entry-at-requires-3
+entry-at-requires-3 c κs = search needs
+
+dictionary-in-requires : tie.Need-dictionary-in-requires
+dictionary-in-requires c κs = search needs
+
+enum-known-place-2 : tie.Need-enum-known-place-2
+enum-known-place-2 c = search needs
+
+enum-known-fault-3 : tie.Need-enum-known-fault-3
+enum-known-fault-3 c = search needs
+
+returns-3 : tie.Need-returns-3
+unfolding transaction
+returns-3 c = let t2 = c .before .before .before .before .before .before in let t1 = t2 .before .before .before .before .before in
+    rw (
+      bookmarks (t1 .before .before) (t1 .place .given .1),
+      timeout (t2 .before .before) (t2 .number .given .1),
+      metadata (c .before .before .before) (c .before .fault3 .given .1),
+    )
+
+array-read-entry-at-4 : tie.Need-array-read-entry-at-4
+array-read-entry-at-4 c = search needs
+
+entry-at-requires-4 : tie.Need-entry-at-requires-4
+entry-at-requires-4 c κs = search needs
+
+mode-in-requires : tie.Need-mode-in-requires
+mode-in-requires c κs = search needs
+
+enum-known-mode : tie.Need-enum-known-mode
+enum-known-mode c = search needs
+
+enum-known-fault-4 : tie.Need-enum-known-fault-4
+enum-known-fault-4 c = search needs
+
+returns-4 : tie.Need-returns-4
+unfolding transaction
+returns-4 c = let t3 = c .before .before .before .before .before .before in let t2 = t3 .before .before .before .before .before in let t1 = t2 .before .before .before .before .before in
+    rw (
+      bookmarks (t1 .before .before) (t1 .place .given .1),
+      timeout (t2 .before .before) (t2 .number .given .1),
+      metadata (t3 .before .before) (t3 .place2 .given .1),
+      access (c .before .before .before) (c .before .fault4 .given .1),
+    )
+
+array-read-entry-at-5 : tie.Need-array-read-entry-at-5
+array-read-entry-at-5 c = search needs
+
+entry-at-requires-5 : tie.Need-entry-at-requires-5
+entry-at-requires-5 c κs = search needs
+
+string-in-requires : tie.Need-string-in-requires
+string-in-requires c κs = search needs
+
+enum-known-text : tie.Need-enum-known-text
+enum-known-text c = search needs
+
+enum-known-fault-5 : tie.Need-enum-known-fault-5
+enum-known-fault-5 c = search needs
+
+returns-5 : tie.Need-returns-5
+unfolding transaction
+returns-5 c = let t4 = c .before .before .before .before .before .before in let t3 = t4 .before .before .before .before .before in let t2 = t3 .before .before .before .before .before in let t1 = t2 .before .before .before .before .before in
+    rw (
+      bookmarks (t1 .before .before) (t1 .place .given .1),
+      timeout (t2 .before .before) (t2 .number .given .1),
+      metadata (t3 .before .before) (t3 .place2 .given .1),
+      access (t4 .before .before) (t4 .mode .given .1),
+      db (c .before .before .before) (c .before .fault5 .given .1),
+    )
+
+returns-6 : tie.Need-returns-6
+unfolding transaction
+returns-6 c = let t4 = c .before .before .before .before .before .before in let t3 = t4 .before .before .before .before .before in let t2 = t3 .before .before .before .before .before in let t1 = t2 .before .before .before .before .before in
+    rw (
+      bookmarks (t1 .before .before) (t1 .place .given .1),
+      timeout (t2 .before .before) (t2 .number .given .1),
+      metadata (t3 .before .before) (t3 .place2 .given .1),
+      access (t4 .before .before) (t4 .mode .given .1),
+      db (c .before .before .before) (c .before .text .given .1),
+    )
+
+pub transaction-spec : {M : Type 1} → statement M
+transaction-spec =
+    tie.close
+    (tie.spec
+    array-read-entry-at
+    entry-at-requires
+    list-of-strings-in-requires
+    enum-known-place
+    enum-known-fault
+    returns
+    array-read-entry-at-2
+    entry-at-requires-2
+    integer-in-requires
+    enum-known-number
+    enum-known-fault-2
+    returns-2
+    array-read-entry-at-3
+    entry-at-requires-3
+    dictionary-in-requires
+    enum-known-place-2
+    enum-known-fault-3
+    returns-3
+    array-read-entry-at-4
+    entry-at-requires-4
+    mode-in-requires
+    enum-known-mode
+    enum-known-fault-4
+    returns-4
+    array-read-entry-at-5
+    entry-at-requires-5
+    string-in-requires
+    enum-known-text
+    enum-known-fault-5
+    returns-5
+    returns-6)

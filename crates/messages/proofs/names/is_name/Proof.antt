@@ -1,0 +1,110 @@
+-- `messages::names::is_name` meets its contract. The loop's invariant: what is left of the key and of the name decides. Assumes nothing.
+use mathlib.Core.Path.{_≡_, sym, ap, _∙_}
+use Prim.Native.Nat.{_≤_, _-_, _+_}
+use native.Mathlib.Omega.{arith}
+use Rattle.slices.specs.Parts.{part}
+use Rattle.packstream.specs.Decode.{same}
+use Rattle.messages.proofs.Naming.{spaced, written, starts, startOf, begins-before, begins-inside, written-length, its-room, of-its-size, of-other-size, Comparing, comparing-none, all-equal, one-equal, one-differs}
+use Rattle.messages.proofs.names.is_name.Statement.{statement}
+use Rattle.messages.proofs.names.is_name.Tie as tie
+
+abbrev Inv-loop : tie.InvT-loop
+Inv-loop message start size number at i₀ i = (i ≤ size) × Comparing message start written at size i
+
+abbrev μ-loop : tie.MeasureT-loop
+μ-loop message start size number at i₀ i = size - i
+
+mul-at : tie.Need-mul-at Inv-loop μ-loop
+mul-at c = omega arith
+
+array-read-at : tie.Need-array-read-at Inv-loop μ-loop
+array-read-at c = omega arith
+
+add-if1 : tie.Need-add-if1 Inv-loop μ-loop
+add-if1 c = omega arith
+
+mul-if1 : tie.Need-mul-if1 Inv-loop μ-loop
+mul-if1 c = omega arith
+
+array-read-if1 : tie.Need-array-read-if1 Inv-loop μ-loop
+array-read-if1 c = omega arith
+
+sub-if1 : tie.Need-sub-if1 Inv-loop μ-loop
+sub-if1 c = let l = begins-before (c .args .number) (c .pre .1) in omega arith
+
+add-if1-2 : tie.Need-add-if1-2 Inv-loop μ-loop
+add-if1-2 c = omega arith
+
+returns : tie.Need-returns Inv-loop μ-loop
+returns c = let a = c .before .args in let h = c .before .pre in
+    sym (of-other-size (a .number) (h .1) (a .message .now) (a .start) (a .size) (h .0) (c .if1 .taken))
+
+loop-holds : tie.Need-loop-holds Inv-loop μ-loop
+loop-holds c = let a = c .before .args in (omega arith, comparing-none (a .message .now) (a .start) written (startOf (a .number)) (a .size))
+
+add-if2 : tie.Need-add-if2 Inv-loop μ-loop
+add-if2 c = omega arith
+
+shared-slice-read-if2 : tie.Need-shared-slice-read-if2 Inv-loop μ-loop
+shared-slice-read-if2 c = omega arith
+
+add-if2-2 : tie.Need-add-if2-2 Inv-loop μ-loop
+add-if2-2 c = let a = c .before .before .before .before .args in let h = c .before .before .before .before .pre in
+    let r = its-room (a .number) (h .1) (a .message .now) (a .start) (a .size) (h .0) (c .before .before .before .if1 .left) in omega (arith, written-length)
+
+array-read-if2 : tie.Need-array-read-if2 Inv-loop μ-loop
+array-read-if2 c = let a = c .before .before .before .before .args in let h = c .before .before .before .before .pre in
+    let r = its-room (a .number) (h .1) (a .message .now) (a .start) (a .size) (h .0) (c .before .before .before .if1 .left) in omega (arith, written-length)
+
+returns-2 : tie.Need-returns-2 Inv-loop μ-loop
+unfolding spaced
+returns-2 c = let a = c .before .before .before .before .before .args in let h = c .before .before .before .before .before .pre in let l = c .before .before .before .loop in
+    let e = c .before .before .before .before .if1 .left in
+    sym (ap (same (part (a .message .now) (a .start) (a .size))) (sym (of-its-size (a .number) (h .1) (a .message .now) (a .start) (a .size) (h .0) e))
+    ∙ one-differs (a .message .now) (a .start) written (startOf (a .number)) (a .size) (l .i) (l .inv .1) (c .before .before .loop-test .taken) (h .0)
+    (its-room (a .number) (h .1) (a .message .now) (a .start) (a .size) (h .0) e) (c .if2 .taken))
+
+add-i : tie.Need-add-i Inv-loop μ-loop
+add-i c = omega arith
+
+loop-less : tie.Need-loop-less Inv-loop μ-loop
+loop-less c = omega arith
+
+loop-again : tie.Need-loop-again Inv-loop μ-loop
+unfolding spaced
+loop-again c = let a = c .before .before .before .before .before .args in let h = c .before .before .before .before .before .pre in let l = c .before .before .before .loop in
+    let e = c .before .before .before .before .if1 .left in (
+      omega arith,
+      one-equal (a .message .now) (a .start) written (startOf (a .number)) (a .size) (l .i) (l .inv .1) (c .before .before .loop-test .taken) (h .0)
+          (its-room (a .number) (h .1) (a .message .now) (a .start) (a .size) (h .0) e) (c .if2 .left),
+    )
+
+returns-3 : tie.Need-returns-3 Inv-loop μ-loop
+returns-3 c = let a = c .before .before .before .args in let h = c .before .before .before .pre in let l = c .before .loop in
+    sym (ap (same (part (a .message .now) (a .start) (a .size))) (sym (of-its-size (a .number) (h .1) (a .message .now) (a .start) (a .size) (h .0) (c .before .before .if1 .left)))
+    ∙ all-equal (a .message .now) (a .start) written (startOf (a .number)) (a .size) (l .i) (l .inv .1) (omega arith))
+
+pub is-name-spec : {M : Type 1} → statement M
+is-name-spec =
+    tie.close
+    (tie.spec
+    Inv-loop
+    μ-loop
+    mul-at
+    array-read-at
+    add-if1
+    mul-if1
+    array-read-if1
+    sub-if1
+    add-if1-2
+    returns
+    loop-holds
+    add-if2
+    shared-slice-read-if2
+    add-if2-2
+    array-read-if2
+    returns-2
+    add-i
+    loop-less
+    loop-again
+    returns-3)
