@@ -1,22 +1,19 @@
 -- Laws of the extras: a known name's entry by its number, and one check after the other. Assumes nothing.
 use mathlib.Core.Path.{_≡_, refl, sym, ap, _∙_}
 use mathlib.Core.Bool.{Bool, true, false, cond}
-use mathlib.Core.List.{List, [], _∷_}
-use Prim.Native.Nat.{ℕ, suc, _<_}
+use mathlib.Core.List.{List}
+use Prim.Native.Nat.{ℕ, _<_}
 use lib.ListN.{getD}
 use Rattle.refusal.specs.Answer.{Answer}
-use Rattle.packstream.specs.Decode.{same}
-use Rattle.packstream.proofs.Markers.{tabulate, agree}
-use Rattle.messages.specs.Names.{names, nameOf, indexOf}
+use Rattle.messages.specs.Names.{nameOf}
 use Rattle.messages.specs.View.{absent}
 use Rattle.messages.specs.Walk.{entryAt, entryIn}
 use Rattle.messages.specs.declared.view.Entry.{Entry}
+use Rattle.messages.proofs.Naming.{index-of-name}
 
 -- the entry under the k-th name stands where it was noted
 pub entry-is : (s found : List ℕ) (k : ℕ) → k < 12 → entryAt s (getD found k 0) ≡ entryIn s found (nameOf k)
-unfolding tabulate indexOf same
-entry-is s found k h =
-    ap (λ (j : ℕ). entryAt s (getD found j 0)) (sym (agree (λ j. indexOf (nameOf j) names) (λ j. j) 12 refl k h))
+entry-is s found k h = ap (λ (j : ℕ). entryAt s (getD found j 0)) (sym (index-of-name k h))
 
 -- a name that is not known yet has no entry
 pub entry-since : (s : List ℕ) (b : Bool) (place : ℕ) (e : Entry) → entryAt s place ≡ e → entryAt s (cond b place 0) ≡ cond b e absent

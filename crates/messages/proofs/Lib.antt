@@ -4,3 +4,7 @@ pub mod Viewing
 pub mod Peeking
 pub mod Walking
 pub mod Extras
+pub mod Trees
+pub mod Lookups
+pub mod Fields
+pub mod Roots

@@ -125,6 +125,22 @@ index-bound key (k ∷ ks) = by (same key k) (index-bound key ks)
 pub number-bound : (number : ℕ) (key : List ℕ) → number ≡ indexOf key names → number < 13
 number-bound number key e = omega (arith, index-bound key names)
 
+pub index-of-name : (k : ℕ) → k < 12 → indexOf (nameOf k) names ≡ k
+unfolding tabulate indexOf same
+index-of-name k h = agree (λ j. indexOf (nameOf j) names) (λ j. j) 12 refl k h
+
+-- a key with the number of a name is that name
+pub name-of-index : (key : List ℕ) (ks : List (List ℕ)) → indexOf key ks < length ks → same key (getD ks (indexOf key ks) []) ≡ true
+unfolding indexOf
+name-of-index key [] h = absurd (omega arith)
+name-of-index key (k ∷ ks) h = by (same key k) refl h (name-of-index key ks)
+  where
+    by : (t : Bool) → same key k ≡ t → cond t 0 (suc (indexOf key ks)) < suc (length ks)
+        → (indexOf key ks < length ks → same key (getD ks (indexOf key ks) []) ≡ true)
+        → same key (getD (k ∷ ks) (cond t 0 (suc (indexOf key ks))) []) ≡ true
+    by true e h later = e
+    by false e h later = later (omega arith)
+
 -- the search: the names from the k-th on decide
 abbrev pub Finding : List ℕ → ℕ → Type 0
 Finding key k = indexOf key names ≡ k + indexOf key (drop k names)

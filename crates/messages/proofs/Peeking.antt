@@ -24,32 +24,36 @@ use Rattle.messages.specs.declared.request.Span.{Span}
 use Rattle.messages.specs.declared.request.Text.{Text}
 use Rattle.messages.specs.declared.request.Text.the-variants as T
 
--- the content of a String that is found
-abbrev Within : ℕ → Text → Type 0
-Within n T.Absent = Unit {0}
-Within n (T.At sp) = sp .start + sp .size ≤ n
+-- the content of a String that is found ends past its marker and inside the message
+pub record Within (s : List ℕ) (at : ℕ) (c : Span) : Type 0 where
+  pub past : at < c .start + c .size
+  pub inside : c .start + c .size ≤ length s
 
-within-leaf : (s : List ℕ) (at : ℕ) (k : Leaf) (p n : ℕ) → p + n ≤ length s → Within (length s) (stringFound (peekOf s (E.Leaf k p n)))
+abbrev TextWithin : List ℕ → ℕ → Text → Type 0
+TextWithin s at T.Absent = Unit {0}
+TextWithin s at (T.At c) = Within s at c
+
+within-leaf : (s : List ℕ) (at : ℕ) (k : Leaf) (p n : ℕ) → at < p + n → p + n ≤ length s → TextWithin s at (stringFound (peekOf s (E.Leaf k p n)))
 unfolding peekOf headOf leafValue
-within-leaf s at L.Null p n h = tt
-within-leaf s at L.Boolean p n h = tt
-within-leaf s at L.Integer p n h = tt
-within-leaf s at L.Float p n h = tt
-within-leaf s at L.Bytes p n h = tt
-within-leaf s at L.String p n h = omega (arith, length-part s p n h)
+within-leaf s at L.Null p n l h = tt
+within-leaf s at L.Boolean p n l h = tt
+within-leaf s at L.Integer p n l h = tt
+within-leaf s at L.Float p n l h = tt
+within-leaf s at L.Bytes p n l h = tt
+within-leaf s at L.String p n l h = let e = length-part s p n h in record { past = omega arith; inside = omega arith }
 
-within-found : (s : List ℕ) (at : ℕ) (x : Extent) → Inside s at x → Within (length s) (stringFound (peekOf s x))
+within-found : (s : List ℕ) (at : ℕ) (x : Extent) → Inside s at x → TextWithin s at (stringFound (peekOf s x))
 unfolding peekOf
-within-found s at (E.Leaf k p n) i = within-leaf s at k p n (i .inside)
+within-found s at (E.Leaf k p n) i = within-leaf s at k p n (i .past) (i .inside)
 within-found s at (E.Container C.List p n) i = tt
 within-found s at (E.Container C.Dictionary p n) i = tt
 within-found s at (E.Container C.Structure p n) i = by (ltb p (length s))
   where
-    by : (b : Bool) → Within (length s) (stringFound (cond b (Pk.Value (H.Structure (getD s p 0) (p + 1) n)) Pk.Nothing))
+    by : (b : Bool) → TextWithin s at (stringFound (cond b (Pk.Value (H.Structure (getD s p 0) (p + 1) n)) Pk.Nothing))
     by true = tt
     by false = tt
 within-found s at (E.Refused why place) i = tt
 
-pub string-within : (s : List ℕ) (at : ℕ) (sp : Span) → T.At sp ≡ stringFound (peekAt s at) → sp .start + sp .size ≤ length s
+pub string-within : (s : List ℕ) (at : ℕ) (c : Span) → T.At c ≡ stringFound (peekAt s at) → Within s at c
 unfolding peekAt
-string-within s at sp e = subst (Within (length s)) (sym e) (within-found s at (extentAt s mostOpen at) (extent-inside s at mostOpen))
+string-within s at c e = subst (TextWithin s at) (sym e) (within-found s at (extentAt s mostOpen at) (extent-inside s at mostOpen))

@@ -15,6 +15,8 @@ use Rattle.messages.specs.declared.request.Request.the-variants as R
 use Rattle.messages.specs.declared.request.Reading.{Reading}
 use Rattle.messages.specs.declared.request.Reading.the-variants as Read
 use Rattle.messages.specs.declared.view.Entry.{Entry}
+use Rattle.messages.specs.declared.extra.Kind.{Kind}
+use Rattle.messages.specs.declared.extra.Kind.the-variants as K
 use Rattle.messages.specs.declared.extra.CheckedTransaction.{CheckedTransaction}
 use Rattle.messages.specs.declared.extra.CheckedTransaction.the-variants as CT
 use Rattle.messages.specs.declared.extra.CheckedBatch.{CheckedBatch}
@@ -60,6 +62,13 @@ discard at e = andThen (batch at e) (λ b. result (R.Discard b))
 
 abbrev pub pull : ℕ → Lookup → Answer Request
 pull at e = andThen (batch at e) (λ b. result (R.Pull b))
+
+-- the requests that have the extra alone
+abbrev pub asks : Kind → ℕ → ℕ → Lookup → Answer Request
+asks K.Hello minor = hello minor
+asks K.Begin minor = begin
+asks K.Discard minor = discard
+asks K.Pull minor = pull
 
 -- ---- fields, each with its marker's offset
 
@@ -110,15 +119,15 @@ three f (item at v vs) = two (f at v) vs
 -- by the tag; any other is 14
 unfoldable pub tagged : ℕ → ℕ → Items → Answer Request
 tagged minor tag fields =
-    cond (eqb tag 0x01) (one (extra (hello minor)) fields)
+    cond (eqb tag 0x01) (one (extra (asks K.Hello minor)) fields)
     (cond (eqb tag 0x02) (none (result R.Goodbye) fields)
     (cond (eqb tag 0x0F) (none (result R.Reset) fields)
     (cond (eqb tag 0x10) (three run fields)
-    (cond (eqb tag 0x11) (one (extra begin) fields)
+    (cond (eqb tag 0x11) (one (extra (asks K.Begin minor)) fields)
     (cond (eqb tag 0x12) (none (result R.Commit) fields)
     (cond (eqb tag 0x13) (none (result R.Rollback) fields)
-    (cond (eqb tag 0x2F) (one (extra discard) fields)
-    (cond (eqb tag 0x3F) (one (extra pull) fields)
+    (cond (eqb tag 0x2F) (one (extra (asks K.Discard minor)) fields)
+    (cond (eqb tag 0x3F) (one (extra (asks K.Pull minor)) fields)
     (refused 14 0)))))))))
 
 -- "14: not a known request structure"

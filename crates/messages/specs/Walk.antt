@@ -3,10 +3,14 @@
 use Prim.Native.Nat.{ℕ, zero, suc, _+_}
 use mathlib.Core.Bool.{cond}
 use mathlib.Core.List.{List}
+use mathlib.Core.Path.{_≡_}
 use lib.Dec.{eqb}
 use lib.ListN.{getD, set, replicate}
 use Rattle.slices.specs.Parts.{part}
+use Rattle.refusal.specs.Answer.{Answer}
+use Rattle.packstream.specs.Value.{Items, count}
 use Rattle.packstream.specs.Walk.{peekAt, skipAt}
+use Rattle.packstream.specs.Placement.{ItemsLie}
 use Rattle.packstream.specs.declared.read.Head.{Head}
 use Rattle.packstream.specs.declared.read.Head.the-variants as H
 use Rattle.packstream.specs.declared.walk.Peeked.{Peeked}
@@ -15,12 +19,14 @@ use Rattle.packstream.specs.declared.walk.Skipped.{Skipped}
 use Rattle.packstream.specs.declared.walk.Skipped.the-variants as S
 use Rattle.messages.specs.Names.{names, indexOf}
 use Rattle.messages.specs.View.{span, modeNamed}
-use Rattle.messages.specs.Requests.{Lookup}
+use Rattle.messages.specs.Requests.{Lookup, told}
 use Rattle.messages.specs.declared.request.Span.{Span}
 use Rattle.messages.specs.declared.request.Text.{Text}
 use Rattle.messages.specs.declared.request.Text.the-variants as T
 use Rattle.messages.specs.declared.request.Place.{Place}
 use Rattle.messages.specs.declared.request.Place.the-variants as P
+use Rattle.messages.specs.declared.request.Request.{Request}
+use Rattle.messages.specs.declared.request.Reading.{Reading}
 use Rattle.messages.specs.declared.view.View.{View}
 use Rattle.messages.specs.declared.view.View.the-variants as As
 use Rattle.messages.specs.declared.view.Entry.{Entry}
@@ -118,3 +124,13 @@ nothing = replicate 13 0
 -- what stands under a name, by what was noted
 abbrev pub entryIn : List ℕ → List ℕ → Lookup
 entryIn s found name = entryAt s (getD found (indexOf name names) 0)
+
+-- ---- the fields of a request: so many values one after the other, the first at `at`, read with room for all but one open container
+pub record Fields (s : List ℕ) (at n : ℕ) (vs : Items) : Type 0 where
+  pub end : ℕ
+  pub lie : ItemsLie s 15 at vs end
+  pub count : n ≡ count vs
+
+-- an answer to them: whatever they are, it is what they mean
+abbrev pub Answers : List ℕ → ℕ → ℕ → (Items → Answer Request) → Reading → Type 0
+Answers s at n meaning r = (vs : Items) → Fields s at n vs → told r ≡ meaning vs

@@ -4,7 +4,7 @@ ghost use mathlib.Core.Path.{_≡_};
 ghost use mathlib.Core.Bool.{cond};
 ghost use lib.Dec.{leb};
 ghost use Rattle.messages.specs.Checks.{orMinusOne};
-ghost use Rattle.messages.specs.Requests.{hello as helloIn, transaction as transactionIn, batch as batchIn, told, toldTransaction, toldBatch};
+ghost use Rattle.messages.specs.Requests.{hello as helloIn, transaction as transactionIn, batch as batchIn, asks, told, toldTransaction, toldBatch};
 ghost use Rattle.messages.specs.Walk.{entryIn};
 use crate::checks;
 use crate::checks::CheckedMode;
@@ -153,4 +153,33 @@ pub fn batch(message: &[u8], at: usize, found: [usize; 13]) -> CheckedBatch
     };
     let qid = or_minus_one(stream);
     CheckedBatch::Right(Batch { n: n, qid: qid })
+}
+
+// The requests that have the extra alone.
+pub enum Kind {
+    Hello,
+    Begin,
+    Discard,
+    Pull,
+}
+
+// What the extra at `at` asks for, by the request that it is of.
+pub fn asked(message: &[u8], version: Version, kind: Kind, at: usize, found: [usize; 13]) -> Reading
+    ensures { λ r. ⌜ told r ≡ asks kind (version .minor) at (entryIn (now (message .entry)) found) ⌝ }
+{
+    match kind {
+        Kind::Hello => hello(message, version, at, found),
+        Kind::Begin => match transaction(message, found) {
+            CheckedTransaction::Right(given) => Reading::Request(Request::Begin(given)),
+            CheckedTransaction::Wrong(fault) => Reading::Refused(fault),
+        },
+        Kind::Discard => match batch(message, at, found) {
+            CheckedBatch::Right(given) => Reading::Request(Request::Discard(given)),
+            CheckedBatch::Wrong(fault) => Reading::Refused(fault),
+        },
+        Kind::Pull => match batch(message, at, found) {
+            CheckedBatch::Right(given) => Reading::Request(Request::Pull(given)),
+            CheckedBatch::Wrong(fault) => Reading::Refused(fault),
+        },
+    }
 }

@@ -42,7 +42,7 @@ key-found : (d : tie.After-known-told Inv-loop μ-loop) → T.At (d .before .key
 key-found d = sym (d .before .key .given .1) ∙ d .before .before .before .string-at .ensures
 
 inside : (d : tie.After-known-told Inv-loop μ-loop) → d .before .key .given .0 .0 .start + d .before .key .given .0 .0 .size ≤ length (d .before .before .before .before .before .before .before .args .message .now)
-inside d = string-within (d .before .before .before .before .before .before .before .args .message .now) (d .before .before .before .before .before .loop .at) _ (key-found d)
+inside d = string-within (d .before .before .before .before .before .before .before .args .message .now) (d .before .before .before .before .before .loop .at) _ (key-found d) .inside
 
 add-place : tie.Need-add-place Inv-loop μ-loop
 add-place c = let h = inside c in omega arith

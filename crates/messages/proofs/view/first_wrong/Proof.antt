@@ -34,7 +34,7 @@ returns c = let a = c .before .before .before .before .before .before .args in l
 
 add-at : tie.Need-add-at Inv-loop μ-loop
 add-at c = let a = c .before .before .before .before .before .before .before .before .args in
-    let w = string-within (a .message .now) _ _ (sym (c .before .before .span .given .1) ∙ c .before .before .before .before .string-at .ensures) in omega arith
+    let w = string-within (a .message .now) _ _ (sym (c .before .before .span .given .1) ∙ c .before .before .before .before .string-at .ensures) in omega (arith, w .inside)
 
 add-i : tie.Need-add-i Inv-loop μ-loop
 add-i c = omega arith

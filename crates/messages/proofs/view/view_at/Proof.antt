@@ -46,7 +46,7 @@ enum-known-head-2 c = search needs
 
 mode-named-requires : tie.Need-mode-named-requires
 mode-named-requires c κs = let d = c .before .before .before .before in
-    string-within _ _ _ (ap stringFound (ap P.Value (sym (c .before .head2 .given .1)) ∙ found d))
+    string-within _ _ _ (ap stringFound (ap P.Value (sym (c .before .head2 .given .1)) ∙ found d)) .inside
 
 enum-known-head-3 : tie.Need-enum-known-head-3
 enum-known-head-3 c = search needs

@@ -1,0 +1,95 @@
+-- `messages::extra::asked` meets its contract: by the kind. Assumes nothing.
+use mathlib.Core.Path.{_≡_, sym, ap, _∙_}
+use borrow.Author.Needs.{needs}
+use Rattle.messages.specs.Requests.{toldTransaction, toldBatch}
+use Rattle.messages.proofs.extra.asked.Statement.{statement}
+use Rattle.messages.proofs.extra.asked.Tie as tie
+
+enum-told : tie.Need-enum-told
+enum-told c = search needs
+
+hello-requires : tie.Need-hello-requires
+hello-requires c κs = search needs
+
+enum-told-2 : tie.Need-enum-told-2
+enum-told-2 c = search needs
+
+transaction-requires : tie.Need-transaction-requires
+transaction-requires c κs = search needs
+
+enum-known-given : tie.Need-enum-known-given
+enum-known-given c = search needs
+
+enum-known-fault : tie.Need-enum-known-fault
+enum-known-fault c = search needs
+
+enum-told-3 : tie.Need-enum-told-3
+enum-told-3 c = search needs
+
+batch-requires : tie.Need-batch-requires
+batch-requires c κs = search needs
+
+enum-known-given-2 : tie.Need-enum-known-given-2
+enum-known-given-2 c = search needs
+
+enum-known-fault-2 : tie.Need-enum-known-fault-2
+enum-known-fault-2 c = search needs
+
+enum-told-4 : tie.Need-enum-told-4
+enum-told-4 c = search needs
+
+batch-requires-2 : tie.Need-batch-requires-2
+batch-requires-2 c κs = search needs
+
+enum-known-given-3 : tie.Need-enum-known-given-3
+enum-known-given-3 c = search needs
+
+enum-known-fault-3 : tie.Need-enum-known-fault-3
+enum-known-fault-3 c = search needs
+
+returns : tie.Need-returns
+returns c = rw (c .before .enum-told .given .1) (c .hello .ensures)
+
+returns-2 : tie.Need-returns-2
+returns-2 c = rw (c .before .before .before .before .enum-told2 .given .1, sym (c .before .before .before .transaction .ensures) ∙ ap toldTransaction (c .before .given .given .1))
+
+returns-3 : tie.Need-returns-3
+returns-3 c = rw (c .before .before .before .before .enum-told2 .given .1, sym (c .before .before .before .transaction .ensures) ∙ ap toldTransaction (c .before .fault .given .1))
+
+returns-4 : tie.Need-returns-4
+returns-4 c = rw (c .before .before .before .before .enum-told3 .given .1, sym (c .before .before .before .batch .ensures) ∙ ap toldBatch (c .before .given2 .given .1))
+
+returns-5 : tie.Need-returns-5
+returns-5 c = rw (c .before .before .before .before .enum-told3 .given .1, sym (c .before .before .before .batch .ensures) ∙ ap toldBatch (c .before .fault2 .given .1))
+
+returns-6 : tie.Need-returns-6
+returns-6 c = rw (c .before .before .before .before .enum-told4 .given .1, sym (c .before .before .before .batch2 .ensures) ∙ ap toldBatch (c .before .given3 .given .1))
+
+returns-7 : tie.Need-returns-7
+returns-7 c = rw (c .before .before .before .before .enum-told4 .given .1, sym (c .before .before .before .batch2 .ensures) ∙ ap toldBatch (c .before .fault3 .given .1))
+
+pub asked-spec : {M : Type 1} → statement M
+asked-spec =
+    tie.close
+    (tie.spec
+    enum-told
+    hello-requires
+    enum-told-2
+    transaction-requires
+    enum-known-given
+    enum-known-fault
+    enum-told-3
+    batch-requires
+    enum-known-given-2
+    enum-known-fault-2
+    enum-told-4
+    batch-requires-2
+    enum-known-given-3
+    enum-known-fault-3
+    returns
+    returns-2
+    returns-3
+    returns-4
+    returns-5
+    returns-6
+    returns-7)
