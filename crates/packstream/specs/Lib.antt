@@ -3,3 +3,4 @@ pub mod Marker
 pub mod Decode
 pub mod Reading
 pub mod Cases
+pub mod Packing

@@ -1,4 +1,5 @@
 // PackStream version 1, document 01, "Values": what the values of a message are, and where they lie in it.
 pub mod extent;
 pub mod marker;
+pub mod pack;
 pub mod read;
