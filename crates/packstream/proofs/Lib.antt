@@ -1,2 +1,4 @@
 pub mod Markers
 pub mod Packing
+pub mod Here
+pub mod RoundTrip

@@ -30,7 +30,7 @@ use Rattle.refusal.specs.Answer.{Answer, result, refused, left}
 use Rattle.refusal.specs.declared.Refusal.{Refusal}
 use Rattle.refusal.specs.declared.Refusal.the-variants.{NoRoom}
 use Rattle.packstream.specs.Decode.{mostBytes}
-use Rattle.packstream.specs.Packing.{narrowest, doublings, wide, isTiny, integerWidth, packInteger, sizeWidth, sizeHeader, packBoolean, stringHeader, packString, dictionaryHeader, structureHeader, stringForm, dictionaryForm, structureForm, fitted, leaves, telling, told}
+use Rattle.packstream.specs.Packing.{narrowest, doublings, wide, isTiny, integerWidth, packInteger, sizeWidth, sizeHeader, headerLength, packBoolean, stringHeader, packString, dictionaryHeader, structureHeader, stringForm, dictionaryForm, structureForm, fitted, leaves, telling, told}
 use Rattle.packstream.specs.declared.pack.Packed.{Packed}
 use Rattle.packstream.specs.declared.pack.Packed.the-variants as P
 
@@ -140,7 +140,7 @@ length-tiny z e = ap length (integer-tiny z e) ∙ length-bytesOf 1 (bitsOf 1 z)
 pub length-integer : (z : ℤ) → isTiny z ≡ false → length (packInteger z) ≡ 1 + integerWidth z
 length-integer z e = ap length (integer-wide z e) ∙ length-wide 0xC8 (integerWidth z) (bitsOf (integerWidth z) z)
 
-pub length-header : (small row n : ℕ) → length (sizeHeader small row n) ≡ cond (ltb n 16) 1 (1 + sizeWidth n)
+pub length-header : (small row n : ℕ) → length (sizeHeader small row n) ≡ headerLength n
 unfolding sizeHeader
 length-header small row n = by (ltb n 16)
   where
@@ -148,7 +148,7 @@ length-header small row n = by (ltb n 16)
     by true = refl
     by false = length-wide row (sizeWidth n) n
 
-pub header-most : (n : ℕ) → cond (ltb n 16) 1 (1 + sizeWidth n) ≤ 9
+pub header-most : (n : ℕ) → headerLength n ≤ 9
 header-most n = by (ltb n 16)
   where
     by : (b : Bool) → cond b 1 (1 + sizeWidth n) ≤ 9
@@ -216,7 +216,7 @@ module _ (d : List ℕ) (at : ℕ) (b : Bool) where
   boolean-false e = rw e
 
 -- a String behind its header
-module _ (v d : List ℕ) (at h : ℕ) (o : h ≡ cond (ltb (length v) 16) 1 (1 + sizeWidth (length v))) where
+module _ (v d : List ℕ) (at h : ℕ) (o : h ≡ headerLength (length v)) where
   header-is : h ≡ length (stringHeader (length v))
   header-is = o ∙ sym (length-header 0x80 0xD0 (length v))
 

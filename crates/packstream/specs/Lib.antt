@@ -4,3 +4,5 @@ pub mod Decode
 pub mod Reading
 pub mod Cases
 pub mod Packing
+pub mod RoundTrip
+pub mod Shortest

@@ -67,6 +67,10 @@ sizeWidth n = narrowest (λ w. holds w n)
 unfoldable pub sizeHeader : ℕ → ℕ → ℕ → List ℕ
 sizeHeader small row n = cond (ltb n 16) ((small + n) ∷ []) (wide row (sizeWidth n) n)
 
+-- how long that header is
+abbrev pub headerLength : ℕ → ℕ
+headerLength n = cond (ltb n 16) 1 (1 + sizeWidth n)
+
 -- Bytes: CC, CD, CE
 abbrev pub packBytes : List ℕ → List ℕ
 packBytes v = wide 0xCC (sizeWidth (length v)) (length v) ++ v

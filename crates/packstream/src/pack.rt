@@ -2,12 +2,10 @@
 // the other: the headers of Structures and Dictionaries, then what these hold. A refused packer has written nothing.
 ghost use mathlib.Core.Path.{_≡_};
 ghost use Prim.Native.Nat.{_+_, _≤_, _<_};
-ghost use mathlib.Core.Bool.{cond};
-ghost use lib.Dec.{ltb};
 ghost use lib.ListN.{length};
 ghost use lib.Seq.{sets};
 ghost use Rattle.refusal.specs.Answer.{result, left};
-ghost use Rattle.packstream.specs.Packing.{doublings, isTiny, integerWidth, packInteger, sizeWidth, sizeHeader, packBoolean, packString, stringForm, dictionaryForm, structureForm, fitted, leaves, telling, told};
+ghost use Rattle.packstream.specs.Packing.{doublings, isTiny, integerWidth, packInteger, sizeWidth, sizeHeader, headerLength, packBoolean, packString, stringForm, dictionaryForm, structureForm, fitted, leaves, telling, told};
 use refusal::Refusal;
 
 // What a packer answers: the offset past what it packed, or why it packed nothing.
@@ -82,7 +80,7 @@ pub fn integer_length(number: i64) -> usize
 
 // How many bytes the header of a String or a Dictionary takes.
 pub fn header_length(size: usize) -> usize
-    ensures { λ r. ⌜ r ≡ cond (ltb size 16) 1 (1 + sizeWidth size) ⌝ }
+    ensures { λ r. ⌜ r ≡ headerLength size ⌝ }
 {
     if size < 16 {
         return 1;
