@@ -1,4 +1,9 @@
 pub mod Markers
+pub mod Extents
+pub mod Leaves
+pub mod KeySearch
+pub mod Walk
+pub mod Scratch
 pub mod Packing
 pub mod Here
 pub mod RoundTrip

@@ -1,15 +1,20 @@
 -- Laws of the markers: the table by ranges, and the code's way by bits. Assumes nothing.
 use mathlib.Core.Path.{_≡_, refl, sym, ap, _∙_}
 use mathlib.Core.Logic.{⊎-elim}
-use mathlib.Core.Bool.{cond}
+use mathlib.Core.Bool.{Bool, true, false, not, cond, _&&_, and-false}
 use mathlib.Core.List.{List, [], _∷_}
 use Prim.Native.Nat.{ℕ, zero, suc, _+_, _-_, _*_, _/_, _%_, _^_, _≤_, _<_}
 use native.Mathlib.Nat.{le-of-suc-le-suc, not-suc-le-zero, eq-or-lt-of-le}
 use native.Mathlib.Omega.{arith}
 use lib.Bits.{bitAnd, and-mask}
-use lib.Dec.{eqb}
-use Rattle.packstream.specs.Marker.{reserved, itself, small, sized, lookup, markerOf}
+use lib.Dec.{ltb, leb, eqb}
+use borrow.Author.Tests.{ltb-true, leb-true, eqb-true, lt-leb}
+use Rattle.slices.proofs.Below.{below}
+use Rattle.slices.proofs.Tests.{and-true, lt-or-ge}
+use Rattle.packstream.specs.Marker.{reserved, itself, small, sized, Row, table, lookup, markerOf, hasSize}
+use Rattle.packstream.specs.declared.marker.Leaf.{Leaf}
 use Rattle.packstream.specs.declared.marker.Leaf.the-variants as L
+use Rattle.packstream.specs.declared.marker.Container.{Container}
 use Rattle.packstream.specs.declared.marker.Container.the-variants as C
 use Rattle.packstream.specs.declared.marker.Kind.{Kind}
 use Rattle.packstream.specs.declared.marker.Kind.the-variants as K
@@ -80,3 +85,72 @@ pub by-split : (m high : ℕ) → m < 256 → m / 16 ≡ high → splitBy high (
 unfolding tabulate markerOf lookup
 by-split m high h e =
     rw (and-mask m 4, ← e) (agree (λ k. splitBy (k / 16) (k % 16) k) markerOf 256 refl m h)
+
+-- ---- what holds of every marker
+-- the marker alone tells the size
+abbrev pub tellsSize : Leaf → Bool
+tellsSize L.Null = true
+tellsSize L.Boolean = true
+tellsSize L.Integer = true
+tellsSize L.Float = true
+tellsSize L.Bytes = false
+tellsSize L.String = false
+
+soundKind : Kind → Marker → Bool
+soundKind K.Reserved m = true
+soundKind (K.Leaf k) m = cond (eqb (m .width) 0) (hasSize k (m .size)) (not (tellsSize k)) && leb 1 (m .skip + (m .width + m .size))
+soundKind (K.Container k) m = eqb (m .skip) 1
+
+sound : ℕ → Bool
+sound b = leb (markerOf b .skip) 1 && soundKind (markerOf b .kind) (markerOf b)
+
+-- the table ends at FF
+endsBelow : ℕ → List Row → Bool
+endsBelow n [] = true
+endsBelow n (r ∷ rs) = ltb (r .to) n && endsBelow n rs
+
+past-rows : (n : ℕ) (rs : List Row) → endsBelow n rs ≡ true → (m : ℕ) → n ≤ m → lookup rs m ≡ reserved
+unfolding endsBelow lookup
+past-rows n [] e m h = refl
+past-rows n (r ∷ rs) e m h =
+    let both = and-true (ltb (r .to) n) (endsBelow n rs) e in
+    let l : r .to < n = ltb-true (r .to) n (both .0) in
+    rw (lt-leb m (r .to) (omega arith), and-false (leb (r .from) m)) (past-rows n rs (both .1) m h)
+
+sound-marker : (b : ℕ) → sound b ≡ true
+unfolding sound soundKind markerOf lookup endsBelow
+sound-marker b =
+    ⊎-elim (λ (h : b < 256). below sound 256 refl b h)
+    (λ (h : 256 ≤ b). ap (λ (m : Marker). leb (m .skip) 1 && soundKind (m .kind) m) (past-rows 256 table refl b h))
+    (lt-or-ge b 256)
+
+-- at most one byte is skipped
+pub skip-one : (b : ℕ) → markerOf b .skip ≤ 1
+unfolding sound
+skip-one b =
+    leb-true (markerOf b .skip) 1 (and-true (leb (markerOf b .skip) 1) (soundKind (markerOf b .kind) (markerOf b)) (sound-marker b) .0)
+
+sound-as : (b : ℕ) (k : Kind) → markerOf b .kind ≡ k → soundKind k (markerOf b) ≡ true
+unfolding sound
+sound-as b k e =
+    ap (λ (j : Kind). soundKind j (markerOf b)) (sym e)
+    ∙ and-true (leb (markerOf b .skip) 1) (soundKind (markerOf b .kind) (markerOf b)) (sound-marker b) .1
+
+-- a leaf's size is one that its kind has, and something is read
+pub record SoundLeaf (k : Leaf) (m : Marker) : Type 0 where
+  pub sized : cond (eqb (m .width) 0) (hasSize k (m .size)) (not (tellsSize k)) ≡ true
+  pub reads : 1 ≤ m .skip + (m .width + m .size)
+
+pub sound-leaf : (b : ℕ) (k : Leaf) → markerOf b .kind ≡ K.Leaf k → SoundLeaf k (markerOf b)
+unfolding soundKind
+sound-leaf b k e =
+    let m = markerOf b in
+    let both =
+    and-true (cond (eqb (m .width) 0) (hasSize k (m .size)) (not (tellsSize k))) (leb 1 (m .skip + (m .width + m .size)))
+    (sound-as b (K.Leaf k) e) in
+    record { sized = both .0; reads = leb-true 1 (m .skip + (m .width + m .size)) (both .1) }
+
+-- a container's marker is followed by what it holds
+pub sound-container : (b : ℕ) (k : Container) → markerOf b .kind ≡ K.Container k → markerOf b .skip ≡ 1
+unfolding soundKind
+sound-container b k e = eqb-true (markerOf b .skip) 1 (sound-as b (K.Container k) e)

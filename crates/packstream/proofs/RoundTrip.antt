@@ -23,9 +23,9 @@ use Rattle.utf8.specs.Utf8.{utf8}
 use Rattle.refusal.specs.Answer.{result}
 use Rattle.packstream.specs.Value.{Value, null, boolean, integer, float, bytes, string, list, dictionary, structure, Items, no-items, item, count, Entries, no-entries, entry, countEntries, relocate, relocateItems, relocateEntries, forget}
 use Rattle.packstream.specs.Marker.{itself, fixed, small, sized, lookup, markerOf}
-use Rattle.packstream.specs.Decode.{Parse, parsed, leafValue, leafAt, items, repeats, Key, keyOf, keyAt, entries, valueAt, mostOpen, mostBytes, messageOf, decode}
+use Rattle.packstream.specs.Decode.{parsed, leafValue, leafAt, items, repeats, keyAt, entries, valueAt, mostOpen, mostBytes, messageOf, decode}
 use Rattle.packstream.specs.Packing.{doublings, wide, packBoolean, packFloat, isTiny, integerWidth, packInteger, sizeWidth, sizeHeader, packBytes, stringHeader, packString, listHeader, dictionaryHeader, structureHeader, pack, packItems, packEntries}
-use Rattle.packstream.specs.RoundTrip.{isText, packable, packableItems, packableEntries, located, locatedItems, locatedEntries, RoundTrip}
+use Rattle.packstream.specs.RoundTrip.{validText, packable, packableItems, packableEntries, located, locatedItems, locatedEntries, RoundTrip}
 use Rattle.packstream.specs.declared.marker.Leaf.the-variants as L
 use Rattle.packstream.specs.declared.marker.Container.the-variants as C
 use Rattle.packstream.specs.declared.marker.Kind.{Kind}
@@ -174,7 +174,7 @@ module _ {s : List ℕ} {at : ℕ} {after : List ℕ} (v : List ℕ) where
       leaf-value L.Bytes depth (head-wide (length v) b bytes-row (here-front header v h)) (here-room w)
       ∙ rw (here-part w, past at header v) refl
 
-  pub read-string : (depth : ℕ) → isText v ≡ true → Here s at (packString v) after
+  pub read-string : (depth : ℕ) → validText v ≡ true → Here s at (packString v) after
       → valueAt s depth at ≡ parsed (string (at + length (stringHeader (length v))) v) (at + length (packString v))
   unfolding leafAt leafValue
   read-string depth t h =
@@ -185,7 +185,7 @@ module _ {s : List ℕ} {at : ℕ} {after : List ℕ} (v : List ℕ) where
       ∙ rw (here-part w, b .1, past at header v) refl
 
   -- a key
-  pub read-key : (seen : List (List ℕ)) → isText v ≡ true → repeats v seen ≡ false → Here s at (packString v) after
+  pub read-key : (seen : List (List ℕ)) → validText v ≡ true → repeats v seen ≡ false → Here s at (packString v) after
       → keyAt s seen at ≡ parsed (record { start = at + length (stringHeader (length v)); content = v }) (at + length (packString v))
   unfolding keyAt
   read-key seen t r h =
@@ -259,8 +259,8 @@ mutual
       → entries s (λ p. valueAt s depth p) seen (countEntries es) at ≡ parsed (locatedEntries at es) (at + length (packEntries es))
   read-entries no-entries {at = at} depth seen p h = ap (λ (e : ℕ). parsed no-entries e) (omega arith)
   read-entries (entry o start key place v es) {at = at} depth seen p h =
-      let b = and-true (isText key && not (repeats key seen)) (packable depth v && packableEntries depth (key ∷ seen) es) p in
-      let k = and-true (isText key) (not (repeats key seen)) (b .0) in
+      let b = and-true (validText key && not (repeats key seen)) (packable depth v && packableEntries depth (key ∷ seen) es) p in
+      let k = and-true (validText key) (not (repeats key seen)) (b .0) in
       let c = and-true (packable depth v) (packableEntries depth (key ∷ seen) es) (b .1) in
       let w = here-back (packString key) (pack v ++ packEntries es) h in
       rw (read-key key seen (k .0) (not-true (repeats key seen) (k .1)) (here-front (packString key) (pack v ++ packEntries es) h))

@@ -16,7 +16,7 @@ use Rattle.refusal.specs.Answer.{Answer, result, refused}
 use Rattle.refusal.specs.declared.Refusal.{Refusal}
 use Rattle.refusal.specs.declared.Refusal.the-variants.{TooLong, ValueTruncated, ReservedMarker, TooDeep, InvalidUtf8, KeyNotString, DuplicateKey, TrailingBytes}
 use Rattle.packstream.specs.Value.{Value, null, boolean, integer, float, bytes, string, list, dictionary, structure, Items, no-items, item, Entries, no-entries, entry}
-use Rattle.packstream.specs.Marker.{markerOf}
+use Rattle.packstream.specs.Marker.{markerOf, isString}
 use Rattle.packstream.specs.declared.marker.Leaf.the-variants as L
 use Rattle.packstream.specs.declared.marker.Leaf.{Leaf}
 use Rattle.packstream.specs.declared.marker.Container.the-variants as C
@@ -62,17 +62,9 @@ extentAt s depth at =
     (E.Refused ValueTruncated (length s))
 
 -- "at a key: 7, 8, then 11, then the String's checks"
-abbrev pub keyLeafExtent : List ℕ → ℕ → Marker → Leaf → Extent
-keyLeafExtent s at m L.String = leafExtent s at L.String m
-keyLeafExtent s at m L.Null = E.Refused KeyNotString at
-keyLeafExtent s at m L.Boolean = E.Refused KeyNotString at
-keyLeafExtent s at m L.Integer = E.Refused KeyNotString at
-keyLeafExtent s at m L.Float = E.Refused KeyNotString at
-keyLeafExtent s at m L.Bytes = E.Refused KeyNotString at
-
 abbrev pub keyKindExtent : List ℕ → ℕ → Marker → Kind → Extent
 keyKindExtent s at m K.Reserved = E.Refused ReservedMarker at
-keyKindExtent s at m (K.Leaf k) = keyLeafExtent s at m k
+keyKindExtent s at m (K.Leaf k) = cond (isString k) (leafExtent s at k m) (E.Refused KeyNotString at)
 keyKindExtent s at m (K.Container k) = E.Refused KeyNotString at
 
 unfoldable pub keyExtentAt : List ℕ → ℕ → Extent
@@ -109,12 +101,7 @@ leafValue s L.String p n = string p (part s p n)
 
 -- only a String has to be text
 abbrev pub isText : Leaf → List ℕ → Bool
-isText L.String content = utf8 content
-isText L.Null content = true
-isText L.Boolean content = true
-isText L.Integer content = true
-isText L.Float content = true
-isText L.Bytes content = true
+isText k content = cond (isString k) (utf8 content) true
 
 -- "UTF-8 10"
 unfoldable pub leafAt : List ℕ → ℕ → Leaf → ℕ → ℕ → Parse Value
@@ -138,12 +125,12 @@ repeats key [] = false
 repeats key (k ∷ ks) = same k key || repeats key ks
 
 -- a key: its content's offset, and its content
-pub record Key : Type 0 where
+pub record KeyText : Type 0 where
   pub start : ℕ
   pub content : List ℕ
 
 -- the String's checks, "then 12"
-abbrev pub keyOf : List ℕ → List (List ℕ) → ℕ → Extent → Parse Key
+abbrev pub keyOf : List ℕ → List (List ℕ) → ℕ → Extent → Parse KeyText
 keyOf s seen at (E.Leaf k p n) =
     cond (utf8 (part s p n))
     (cond (repeats (part s p n) seen) (failed DuplicateKey at) (parsed (record { start = p; content = part s p n }) (p + n)))
@@ -151,7 +138,7 @@ keyOf s seen at (E.Leaf k p n) =
 keyOf s seen at (E.Container k p n) = failed KeyNotString at
 keyOf s seen at (E.Refused why place) = failed why place
 
-unfoldable pub keyAt : List ℕ → List (List ℕ) → ℕ → Parse Key
+unfoldable pub keyAt : List ℕ → List (List ℕ) → ℕ → Parse KeyText
 keyAt s seen at = keyOf s seen at (keyExtentAt s at)
 
 -- n entries from `at` on, each value read by f; `seen` are the keys before them in this dictionary
@@ -161,13 +148,16 @@ entries s f seen (suc n) at =
     andThen (keyAt s seen at) (λ k p. andThen (f p) (λ v q.
     mapped (entry at (k .start) (k .content) p v) (entries s f (k .content ∷ seen) n q)))
 
--- n things from p on in the container whose marker is at `at`: values; keys and values; "a tag byte, then the fields", and "tag bytes
--- missing 7"
+-- "then a tag byte, then the fields"; "tag bytes missing 7"
+abbrev pub structureAt : List ℕ → (ℕ → Parse Value) → ℕ → ℕ → ℕ → Parse Value
+structureAt s f at p n =
+    cond (ltb p (length s)) (mapped (structure (getD s p 0)) (items f n (p + 1))) (failed ValueTruncated at)
+
+-- the container whose marker is at `at`, with n things in it from p on
 abbrev pub containerAt : List ℕ → (ℕ → Parse Value) → ℕ → Container → ℕ → ℕ → Parse Value
 containerAt s f at C.List p n = mapped list (items f n p)
 containerAt s f at C.Dictionary p n = mapped dictionary (entries s f [] n p)
-containerAt s f at C.Structure p n =
-    cond (ltb p (length s)) (mapped (structure (getD s p 0)) (items f n (p + 1))) (failed ValueTruncated at)
+containerAt s f at C.Structure p n = structureAt s f at p n
 
 abbrev pub valueOf : List ℕ → (ℕ → Parse Value) → ℕ → Extent → Parse Value
 valueOf s f at (E.Leaf k p n) = leafAt s at k p n

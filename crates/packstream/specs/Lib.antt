@@ -1,6 +1,7 @@
 pub mod Value
 pub mod Marker
 pub mod Decode
+pub mod Keys
 pub mod Reading
 pub mod Cases
 pub mod Packing

@@ -1,8 +1,9 @@
 -- The markers: document 01, "Values", the table and the lines after it. Assumes nothing.
 use Prim.Native.Nat.{ℕ, _%_}
-use mathlib.Core.Bool.{cond, _&&_}
+use mathlib.Core.Bool.{Bool, true, false, cond, _&&_}
 use mathlib.Core.List.{List, [], _∷_}
-use lib.Dec.{leb}
+use lib.Dec.{leb, eqb}
+use Rattle.numbers.specs.Access.{isWidth}
 use Rattle.packstream.specs.declared.marker.Leaf.{Leaf}
 use Rattle.packstream.specs.declared.marker.Leaf.the-variants.{Null, Boolean, Integer, Float, Bytes, String}
 use Rattle.packstream.specs.declared.marker.Container.{Container}
@@ -87,3 +88,20 @@ lookup (r ∷ rs) m = cond (leb (r .from) m && leb m (r .to)) (r .form (m % 16))
 
 unfoldable pub markerOf : ℕ → Marker
 markerOf m = lookup table m
+
+abbrev pub isString : Leaf → Bool
+isString Null = false
+isString Boolean = false
+isString Integer = false
+isString Float = false
+isString Bytes = false
+isString String = true
+
+-- n bytes can be the content of this kind: the table leaves it to the size for Bytes and Strings alone
+abbrev pub hasSize : Leaf → ℕ → Bool
+hasSize Null n = true
+hasSize Boolean n = eqb n 1
+hasSize Integer n = isWidth n
+hasSize Float n = eqb n 8
+hasSize Bytes n = true
+hasSize String n = true

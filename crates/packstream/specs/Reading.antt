@@ -40,6 +40,11 @@ pub record Found : Type 0 where
 abbrev pub foundAt : ℕ → Value → Found
 foundAt end v = record { head = headOf v end; end = end }
 
+-- the answer that says so
+abbrev pub readingOf : Parse Value → Reading
+readingOf (parsed v end) = R.Value (headOf v end) end
+readingOf (failed why place) = R.Refused why place
+
 -- the code's answer in the paper's terms
 abbrev pub told : Reading → Answer Found
 told (R.Value head end) = result (record { head = head; end = end })

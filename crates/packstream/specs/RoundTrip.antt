@@ -17,8 +17,8 @@ use Rattle.packstream.specs.Packing.{sizeWidth, wide, stringHeader, pack
 -- ---- values that have a form
 
 -- a String's content
-abbrev pub isText : List ℕ → Bool
-isText v = holds 4 (length v) && utf8 v
+abbrev pub validText : List ℕ → Bool
+validText v = holds 4 (length v) && utf8 v
 
 -- there is room for one more container, and f holds of what is left
 abbrev pub inside : ℕ → (ℕ → Bool) → Bool
@@ -33,7 +33,7 @@ unfoldable mutual
   packable depth (integer z) = fitsIn 8 z
   packable depth (float bits) = holds 8 bits
   packable depth (bytes start v) = holds 4 (length v)
-  packable depth (string start v) = isText v
+  packable depth (string start v) = validText v
   packable depth (list vs) = inside depth (λ d. holds 4 (count vs) && packableItems d vs)
   packable depth (dictionary es) = inside depth (λ d. holds 4 (countEntries es) && packableEntries d [] es)
   packable depth (structure tag vs) = inside depth (λ d. ltb (count vs) 16 && packableItems d vs)
@@ -46,7 +46,7 @@ unfoldable mutual
   pub packableEntries : ℕ → List (List ℕ) → Entries → Bool
   packableEntries depth seen no-entries = true
   packableEntries depth seen (entry at start key place v es) =
-      (isText key && not (repeats key seen)) && (packable depth v && packableEntries depth (key ∷ seen) es)
+      (validText key && not (repeats key seen)) && (packable depth v && packableEntries depth (key ∷ seen) es)
 
 -- ---- the offsets of a value that is packed from `at` on
 unfoldable mutual

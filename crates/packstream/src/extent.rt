@@ -1,6 +1,15 @@
 // Extents: where a value's content lies, as far as its marker and its size tell.
+ghost use mathlib.Core.Path.{_≡_};
+ghost use Prim.Native.Nat.{_≤_, _<_};
+ghost use lib.ListN.{length};
+ghost use Rattle.packstream.specs.Decode.{sizeAt, leafExtent, containerExtent, extentAt, keyExtentAt};
 use crate::marker::Container;
+use crate::marker::Kind;
 use crate::marker::Leaf;
+use crate::marker::Marker;
+use crate::marker::is_string;
+use crate::marker::split;
+use numbers::Unsigned;
 use refusal::Refusal;
 
 // What lies at an offset.
@@ -21,4 +30,106 @@ pub enum Extent {
         refusal: Refusal,
         place: usize,
     },
+}
+
+// What is read where a key is wanted: where its content lies.
+pub enum Key {
+    String { start: usize, size: usize },
+    Refused { refusal: Refusal, place: usize },
+}
+
+fn refused(refusal: Refusal, place: usize) -> Extent
+    ensures { λ r. ⌜ r ≡ Extent.Refused refusal place ⌝ }
+{
+    Extent::Refused {
+        refusal: refusal,
+        place: place,
+    }
+}
+
+// The size that the marker at `at` gives, itself or in the bytes after it.
+fn size_at(message: &[u8], at: usize, marker: Marker) -> Unsigned
+    requires { ⌜ (at < length (now message)) × (marker .skip ≤ 1) ⌝ }
+    ensures { λ r. ⌜ r ≡ sizeAt (now (message .entry)) at marker ⌝ }
+{
+    let width = marker.width;
+    if width == 0 {
+        return Unsigned::Number(marker.size as u64);
+    }
+    numbers::read_unsigned(message, at + marker.skip, width)
+}
+
+fn leaf_extent(message: &[u8], at: usize, kind: Leaf, marker: Marker) -> Extent
+    requires { ⌜ (at < length (now message)) × (marker .skip ≤ 1) ⌝ }
+    ensures { λ r. ⌜ r ≡ leafExtent (now (message .entry)) at kind marker ⌝ }
+{
+    let Unsigned::Number(n) = size_at(message, at, marker) else {
+        return refused(Refusal::ValueTruncated, at);
+    };
+    let size = n as usize;
+    let start = at + marker.skip + marker.width;
+    if message.len() - start < size {
+        return refused(Refusal::ValueTruncated, at);
+    }
+    Extent::Leaf {
+        kind: kind,
+        start: start,
+        size: size,
+    }
+}
+
+fn container_extent(message: &[u8], at: usize, kind: Container, marker: Marker) -> Extent
+    requires { ⌜ (at < length (now message)) × (marker .skip ≤ 1) ⌝ }
+    ensures { λ r. ⌜ r ≡ containerExtent (now (message .entry)) at kind marker ⌝ }
+{
+    let Unsigned::Number(n) = size_at(message, at, marker) else {
+        return refused(Refusal::ValueTruncated, at);
+    };
+    Extent::Container {
+        kind: kind,
+        start: at + marker.skip + marker.width,
+        count: n as usize,
+    }
+}
+
+// What lies at `at`, with room for `depth` open containers. Text is not looked at, nor a Structure's tag.
+pub fn extent_at(message: &[u8], at: usize, depth: usize) -> Extent
+    ensures { λ r. ⌜ r ≡ extentAt (now (message .entry)) depth at ⌝ }
+{
+    if message.len() <= at {
+        return refused(Refusal::ValueTruncated, message.len());
+    }
+    let marker = split(message[at]);
+    let kind = marker.kind;
+    match kind {
+        Kind::Reserved => refused(Refusal::ReservedMarker, at),
+        Kind::Leaf(leaf) => leaf_extent(message, at, leaf, marker),
+        Kind::Container(container) => {
+            if depth == 0 {
+                return refused(Refusal::TooDeep, at);
+            }
+            container_extent(message, at, container, marker)
+        }
+    }
+}
+
+// What lies at `at` where a key is wanted: nothing but a String's extent will do.
+pub fn key_extent_at(message: &[u8], at: usize) -> Extent
+    ensures { λ r. ⌜ r ≡ keyExtentAt (now (message .entry)) at ⌝ }
+{
+    if message.len() <= at {
+        return refused(Refusal::ValueTruncated, message.len());
+    }
+    let marker = split(message[at]);
+    let kind = marker.kind;
+    match kind {
+        Kind::Reserved => refused(Refusal::ReservedMarker, at),
+        Kind::Leaf(leaf) => {
+            if is_string(leaf) {
+                return leaf_extent(message, at, leaf, marker);
+            }
+            refused(Refusal::KeyNotString, at)
+        }
+        Kind::Container(_) => refused(Refusal::KeyNotString, at),
+    }
 }

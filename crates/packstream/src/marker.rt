@@ -3,7 +3,7 @@ ghost use mathlib.Core.Path.{_≡_};
 ghost use Prim.Native.Nat.{_+_, _≤_, _<_};
 ghost use mathlib.Core.Bool.{cond};
 ghost use lib.Dec.{eqb};
-ghost use Rattle.packstream.specs.Marker.{reserved, itself, small, sized, markerOf};
+ghost use Rattle.packstream.specs.Marker.{reserved, itself, small, sized, markerOf, isString};
 
 // The kinds of value that hold no other.
 pub enum Leaf {
@@ -132,5 +132,18 @@ pub fn split(marker: u8) -> Marker
         13 => wide(marker),
         14 => reserved(),
         _ => itself(Leaf::Integer),
+    }
+}
+
+pub fn is_string(kind: Leaf) -> bool
+    ensures { λ r. ⌜ r ≡ isString kind ⌝ }
+{
+    match kind {
+        Leaf::Null => false,
+        Leaf::Boolean => false,
+        Leaf::Integer => false,
+        Leaf::Float => false,
+        Leaf::Bytes => false,
+        Leaf::String => true,
     }
 }

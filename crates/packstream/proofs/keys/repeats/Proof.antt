@@ -1,0 +1,200 @@
+-- `packstream::keys::repeats` meets its contract: the keys not yet looked at decide, and of the key looked at, the bytes not yet compared.
+-- Assumes nothing.
+use mathlib.Core.Path.{_≡_, refl, sym, ap, _∙_}
+use mathlib.Core.Bool.{true, false}
+use mathlib.Core.List.{List}
+use Prim.Native.Nat.{ℕ, _+_, _-_, _*_, _≤_}
+use native.Mathlib.Omega.{arith}
+use borrow.Author.Needs.{needs}
+use lib.ListN.{length}
+use Rattle.slices.specs.Parts.{part}
+use Rattle.packstream.specs.Decode.{same}
+use Rattle.packstream.specs.Keys.{startOf, sizeOf}
+use Rattle.packstream.proofs.KeySearch.{Comparing, comparing-none, other-size, all-equal, one-equal, one-differs, Searching, none-left, equal-key, other-key, key-inside-at}
+use Rattle.packstream.proofs.keys.repeats.Statement.{statement}
+use Rattle.packstream.proofs.keys.repeats.Tie as tie
+
+abbrev Inv-loop : tie.InvT-loop
+Inv-loop message scratch base count start size found₀ left from i₀ found i =
+    (i ≤ size) × (found ≡ false) × (from + size ≤ length message) × Comparing message from start size i
+
+abbrev μ-loop : tie.MeasureT-loop
+μ-loop message scratch base count start size found₀ left from i₀ found i = size - i
+
+abbrev Inv-search : tie.InvT-search
+Inv-search message scratch base count start size found₀ left₀ found left =
+    (left ≤ count) × (found ≡ false) × Searching message scratch base (part message start size) count left
+
+abbrev μ-search : tie.MeasureT-search
+μ-search message scratch base count start size found₀ left₀ found left = left
+
+-- the key that a turn of the search looks at lies inside the message
+old-inside : (d : tie.After-wide2 Inv-loop μ-loop Inv-search μ-search) → d .before .before .wide .result + d .wide2 .result ≤ length (d .before .before .before .before .before .before .before .before .args .message .now)
+old-inside d =
+    let a = d .before .before .before .before .before .before .before .before .args in
+    rw (d .before .before .wide .ensures, d .wide2 .ensures)
+    (key-inside-at (a .message .now) (a .scratch .now) (a .base) (a .count) (d .before .before .before .before .before .before .before .before .pre .2) (d .before .before .before .before .before .search .left - 1) (omega arith))
+
+-- it is the content that the scratch has
+old-is : (d : tie.After-wide2 Inv-loop μ-loop Inv-search μ-search) → let a = d .before .before .before .before .before .before .before .before .args in
+    part (a .message .now) (startOf (a .scratch .now) (a .base) (d .before .before .before .before .before .search .left - 1)) (sizeOf (a .scratch .now) (a .base) (d .before .before .before .before .before .search .left - 1))
+    ≡ part (a .message .now) (d .before .before .wide .result) (d .wide2 .result)
+old-is d = rw (d .before .before .wide .ensures, d .wide2 .ensures)
+
+search-holds : tie.Need-search-holds Inv-loop μ-loop Inv-search μ-search
+search-holds c = (omega arith, refl, refl)
+
+sub-left : tie.Need-sub-left Inv-loop μ-loop Inv-search μ-search
+sub-left c = omega arith
+
+mul-wide : tie.Need-mul-wide Inv-loop μ-loop Inv-search μ-search
+mul-wide c = omega arith
+
+add-wide : tie.Need-add-wide Inv-loop μ-loop Inv-search μ-search
+add-wide c = omega arith
+
+mul-wide-2 : tie.Need-mul-wide-2 Inv-loop μ-loop Inv-search μ-search
+mul-wide-2 c = omega arith
+
+shared-slice-read-wide : tie.Need-shared-slice-read-wide Inv-loop μ-loop Inv-search μ-search
+shared-slice-read-wide c = omega arith
+
+wide-requires : tie.Need-wide-requires Inv-loop μ-loop Inv-search μ-search
+wide-requires c κs = search needs
+
+mul-wide-3 : tie.Need-mul-wide-3 Inv-loop μ-loop Inv-search μ-search
+mul-wide-3 c = omega arith
+
+add-wide-2 : tie.Need-add-wide-2 Inv-loop μ-loop Inv-search μ-search
+add-wide-2 c = omega arith
+
+add-wide-3 : tie.Need-add-wide-3 Inv-loop μ-loop Inv-search μ-search
+add-wide-3 c = omega arith
+
+mul-wide-4 : tie.Need-mul-wide-4 Inv-loop μ-loop Inv-search μ-search
+mul-wide-4 c = omega arith
+
+shared-slice-read-wide-2 : tie.Need-shared-slice-read-wide-2 Inv-loop μ-loop Inv-search μ-search
+shared-slice-read-wide-2 c = omega arith
+
+wide-requires-2 : tie.Need-wide-requires-2 Inv-loop μ-loop Inv-search μ-search
+wide-requires-2 c κs = search needs
+
+loop-holds : tie.Need-loop-holds Inv-loop μ-loop Inv-search μ-search
+loop-holds c =
+    let a = c .before .before .before .before .before .before .before .before .before .args in
+    let d = c .before in
+    (omega arith, c .before .before .before .before .before .before .search .inv .1, omega (arith, old-inside d, c .if1 .taken), comparing-none (a .message .now) (d .before .before .wide .result) (a .start) (a .size))
+
+add-if3 : tie.Need-add-if3 Inv-loop μ-loop Inv-search μ-search
+add-if3 c = omega (arith, c .before .loop .inv .2)
+
+shared-slice-read-if3 : tie.Need-shared-slice-read-if3 Inv-loop μ-loop Inv-search μ-search
+shared-slice-read-if3 c = omega (arith, c .before .before .loop .inv .2)
+
+add-if3-2 : tie.Need-add-if3-2 Inv-loop μ-loop Inv-search μ-search
+add-if3-2 c = omega arith
+
+shared-slice-read-if3-2 : tie.Need-shared-slice-read-if3-2 Inv-loop μ-loop Inv-search μ-search
+shared-slice-read-if3-2 c = omega arith
+
+search-less : tie.Need-search-less Inv-loop μ-loop Inv-search μ-search
+search-less c = omega arith
+
+search-again : tie.Need-search-again Inv-loop μ-loop Inv-search μ-search
+search-again c =
+    let a = c .before .before .before .before .before .before .before .before .before .before .before .before .before .before .args in
+    let d = c .before .before .before .before .before .before in
+    let l = c .before .before .before .before .loop in
+    let differs =
+    one-differs (a .message .now) (d .before .before .wide .result) (a .start) (a .size) (l .i) (l .inv .3) (omega arith) (l .inv .2) (c .before .before .before .before .before .before .before .before .before .before .before .before .before .before .pre .0) (c .if3 .taken) in (
+      omega arith,
+      l .inv .1,
+      other-key (a .message .now) (a .scratch .now) (a .base) (part (a .message .now) (a .start) (a .size)) (a .count) (d .before .before .before .before .before .search .left) (d .before .before .before .before .before .search .inv .2) (d .before .before .before .before .search-test .taken)
+          (ap (λ (x : List ℕ). same x (part (a .message .now) (a .start) (a .size)))
+          (old-is d ∙ ap (part (a .message .now) (d .before .before .wide .result)) (c .before .before .before .before .before .if1 .taken))
+          ∙ differs),
+    )
+
+add-i : tie.Need-add-i Inv-loop μ-loop Inv-search μ-search
+add-i c = omega arith
+
+loop-less : tie.Need-loop-less Inv-loop μ-loop Inv-search μ-search
+loop-less c = omega arith
+
+loop-again : tie.Need-loop-again Inv-loop μ-loop Inv-search μ-search
+loop-again c =
+    let a = c .before .before .before .before .before .before .before .before .before .before .before .before .before .before .args in
+    let d = c .before .before .before .before .before .before in
+    let l = c .before .before .before .before .loop in (
+      omega arith,
+      l .inv .1,
+      l .inv .2,
+      one-equal (a .message .now) (d .before .before .wide .result) (a .start) (a .size) (l .i) (l .inv .3) (omega arith) (l .inv .2) (c .before .before .before .before .before .before .before .before .before .before .before .before .before .before .pre .0) (c .if3 .left),
+    )
+
+search-less-2 : tie.Need-search-less-2 Inv-loop μ-loop Inv-search μ-search
+search-less-2 c = omega arith
+
+search-again-2 : tie.Need-search-again-2 Inv-loop μ-loop Inv-search μ-search
+search-again-2 c =
+    let a = c .before .before .before .before .before .before .before .before .before .args in
+    let d = c .before in (
+      omega arith,
+      c .before .before .before .before .before .before .search .inv .1,
+      other-key (a .message .now) (a .scratch .now) (a .base) (part (a .message .now) (a .start) (a .size)) (a .count) (d .before .before .before .before .before .search .left) (d .before .before .before .before .before .search .inv .2) (d .before .before .before .before .search-test .taken)
+          (ap (λ (x : List ℕ). same x (part (a .message .now) (a .start) (a .size))) (old-is d)
+          ∙ other-size (a .message .now) (d .before .before .wide .result) (a .start) (a .size) (d .wide2 .result) (old-inside d) (c .before .before .before .before .before .before .before .before .before .pre .0) (c .if1 .left)),
+    )
+
+returns : tie.Need-returns Inv-loop μ-loop Inv-search μ-search
+returns c =
+    let a = c .before .before .before .before .args in
+    let l = c .before .search in
+    l .inv .1
+    ∙ sym (l .inv .2 ∙ none-left (a .message .now) (a .scratch .now) (a .base) (part (a .message .now) (a .start) (a .size)) (l .left) (omega arith))
+
+returns-2 : tie.Need-returns-2 Inv-loop μ-loop Inv-search μ-search
+returns-2 c =
+    let a = c .before .before .before .before .before .before .before .before .before .before .before .args in
+    let d = c .before .before .before in
+    let l = c .before .loop in
+    sym (equal-key (a .message .now) (a .scratch .now) (a .base) (part (a .message .now) (a .start) (a .size)) (a .count) (d .before .before .before .before .before .search .left) (d .before .before .before .before .before .search .inv .2) (d .before .before .before .before .search-test .taken)
+    (ap (λ (x : List ℕ). same x (part (a .message .now) (a .start) (a .size))) (old-is d ∙ ap (part (a .message .now) (d .before .before .wide .result)) (c .before .before .if1 .taken))
+    ∙ all-equal (a .message .now) (d .before .before .wide .result) (a .start) (a .size) (l .i) (l .inv .3) (c .if2 .taken)))
+
+pub repeats-spec : {M : Type 1} → statement M
+repeats-spec =
+    tie.close
+    (tie.spec
+    Inv-loop
+    μ-loop
+    Inv-search
+    μ-search
+    search-holds
+    sub-left
+    mul-wide
+    add-wide
+    mul-wide-2
+    shared-slice-read-wide
+    wide-requires
+    mul-wide-3
+    add-wide-2
+    add-wide-3
+    mul-wide-4
+    shared-slice-read-wide-2
+    wide-requires-2
+    loop-holds
+    add-if3
+    shared-slice-read-if3
+    add-if3-2
+    shared-slice-read-if3-2
+    search-less
+    search-again
+    add-i
+    loop-less
+    loop-again
+    search-less-2
+    search-again-2
+    returns
+    returns-2)

@@ -1,0 +1,155 @@
+// Reading values inside each other: a value is read by the reader of its container, which reads each value that it holds in turn. The room for
+// open containers and the bytes that are left fall with every call; items and entries are read in loops, so that the stack grows with the
+// depth alone.
+ghost use mathlib.Core.Path.{_≡_};
+ghost use mathlib.Core.List.{[]};
+ghost use Prim.Native.Nat.{_≤_, _<_};
+ghost use lib.ListN.{length, take};
+ghost use Rattle.packstream.specs.Value.{list, dictionary};
+ghost use Rattle.packstream.specs.Decode.{mapped, items, entries, structureAt, valueAt};
+ghost use Rattle.packstream.specs.Keys.{Room};
+ghost use Rattle.packstream.specs.Reading.{readingOf};
+use crate::extent::Extent;
+use crate::extent::Key;
+use crate::extent::extent_at;
+use crate::keys::read_key;
+use crate::leaf::read_leaf;
+use crate::marker::Container;
+use crate::read::Head;
+use crate::read::Reading;
+use refusal::Refusal;
+
+fn refused(refusal: Refusal, place: usize) -> Reading
+    ensures { λ r. ⌜ r ≡ Reading.Refused refusal place ⌝ }
+{
+    Reading::Refused {
+        refusal: refusal,
+        place: place,
+    }
+}
+
+// Reads the value at `at`, with room for `depth` open containers. The scratch has, up to `top`, the keys of the dictionaries that are open; what
+// lies past `top` is free.
+pub fn value(message: &[u8], at: usize, depth: usize, scratch: &mut [u16], top: usize) -> Reading
+    requires { ⌜ Room (length (now message)) (length (now scratch)) at top ⌝ }
+    ensures { λ r. ⌜ (r ≡ readingOf (valueAt (now (message .entry)) depth at)) × (take top (now (scratch .exit)) ≡ take top (now (scratch .entry))) ⌝ }
+{
+    let extent = extent_at(message, at, depth);
+    match extent {
+        Extent::Leaf { kind, start, size } => read_leaf(message, at, kind, start, size),
+        Extent::Container { kind, start, count } => match kind {
+            Container::List => list(message, start, count, depth - 1, scratch, top),
+            Container::Dictionary => dictionary(message, start, count, depth - 1, scratch, top),
+            Container::Structure => structure(message, at, start, count, depth - 1, scratch, top),
+        },
+        Extent::Refused { refusal, place } => refused(refusal, place),
+    }
+}
+
+// Reads the `count` items of a List from `first` on.
+fn list(
+    message: &[u8],
+    first: usize,
+    count: usize,
+    depth: usize,
+    scratch: &mut [u16],
+    top: usize,
+) -> Reading
+    requires { ⌜ Room (length (now message)) (length (now scratch)) first top ⌝ }
+    ensures { λ r. ⌜ (r ≡ readingOf (mapped list (items (valueAt (now (message .entry)) depth) count first))) × (take top (now (scratch .exit)) ≡ take top (now (scratch .entry))) ⌝ }
+{
+    let mut at = first;
+    let mut i = 0;
+    while i < count {
+        let item = value(message, at, depth, scratch, top);
+        match item {
+            Reading::Value { head: _, end } => at = end,
+            Reading::Refused { refusal, place } => return refused(refusal, place),
+        }
+        i += 1;
+    }
+    Reading::Value {
+        head: Head::List {
+            first: first,
+            count: count,
+        },
+        end: at,
+    }
+}
+
+// Reads the tag at `start` and the `count` fields after it of the Structure whose marker is at `marker`.
+fn structure(
+    message: &[u8],
+    marker: usize,
+    start: usize,
+    count: usize,
+    depth: usize,
+    scratch: &mut [u16],
+    top: usize,
+) -> Reading
+    requires { ⌜ Room (length (now message)) (length (now scratch)) start top ⌝ }
+    ensures { λ r. ⌜ (r ≡ readingOf (structureAt (now (message .entry)) (valueAt (now (message .entry)) depth) marker start count)) × (take top (now (scratch .exit)) ≡ take top (now (scratch .entry))) ⌝ }
+{
+    if message.len() <= start {
+        return refused(Refusal::ValueTruncated, marker);
+    }
+    let tag = message[start];
+    let mut at = start + 1;
+    let mut i = 0;
+    while i < count {
+        let field = value(message, at, depth, scratch, top);
+        match field {
+            Reading::Value { head: _, end } => at = end,
+            Reading::Refused { refusal, place } => return refused(refusal, place),
+        }
+        i += 1;
+    }
+    Reading::Value {
+        head: Head::Structure {
+            tag: tag,
+            first: start + 1,
+            count: count,
+        },
+        end: at,
+    }
+}
+
+// Reads the `count` entries of a Dictionary from `first` on.
+fn dictionary(
+    message: &[u8],
+    first: usize,
+    count: usize,
+    depth: usize,
+    scratch: &mut [u16],
+    top: usize,
+) -> Reading
+    requires { ⌜ Room (length (now message)) (length (now scratch)) first top × (top < first) × (first ≤ length (now message)) ⌝ }
+    ensures { λ r. ⌜ (r ≡ readingOf (mapped dictionary (entries (now (message .entry)) (valueAt (now (message .entry)) depth) [] count first))) × (take top (now (scratch .exit)) ≡ take top (now (scratch .entry))) ⌝ }
+{
+    let mut at = first;
+    let mut i = 0;
+    while i < count {
+        let key = read_key(message, at, &scratch[..], top, i);
+        match key {
+            Key::String { start, size } => {
+                let next = top + 2 * i;
+                scratch[next] = start as u16;
+                scratch[next + 1] = size as u16;
+                let item = value(message, start + size, depth, scratch, next + 2);
+                match item {
+                    Reading::Value { head: _, end } => at = end,
+                    Reading::Refused { refusal, place } => return refused(refusal, place),
+                }
+            }
+            Key::Refused { refusal, place } => return refused(refusal, place),
+        }
+        i += 1;
+    }
+    Reading::Value {
+        head: Head::Dictionary {
+            first: first,
+            count: count,
+        },
+        end: at,
+    }
+}
