@@ -1,7 +1,7 @@
 -- From an offset on a message is a list that is known: what is read there. Assumes nothing.
 use mathlib.Core.Path.{_≡_, refl, sym, ap, _∙_}
 use mathlib.Core.Bool.{Bool, true, false, cond}
-use mathlib.Core.List.{List, [], _∷_, _++_, append-assoc}
+use mathlib.Core.List.{List, [], _∷_, _++_, append-assoc, append-nil}
 use Prim.Native.Nat.{ℕ, zero, suc, _+_, _^_, _≤_, _<_}
 use native.Mathlib.Numerals.{add-one}
 use native.Mathlib.Omega.{arith}
@@ -35,6 +35,9 @@ pub record Here (s : List ℕ) (at : ℕ) (v after : List ℕ) : Type 0 where
 pub here : (before v after : List ℕ) → Here (before ++ (v ++ after)) (length before) v after
 here before v after =
     record { offset = omega (arith, length-append before (v ++ after)); rest = drop-append-seam before (v ++ after) }
+
+pub here-alone : (v : List ℕ) → Here v 0 v []
+here-alone v = record { offset = omega arith; rest = sym (append-nil v) }
 
 module _ {s : List ℕ} {at : ℕ} {v after : List ℕ} (h : Here s at v after) where
   -- it lies inside, and is what is read there

@@ -7,3 +7,4 @@ pub mod Scratch
 pub mod Packing
 pub mod Here
 pub mod RoundTrip
+pub mod Shortest

@@ -23,7 +23,7 @@ use Rattle.numbers.specs.declared.Stored.{Stored}
 use Rattle.numbers.specs.declared.Stored.the-variants.{Written}
 use Rattle.numbers.proofs.BigEndian.{length-bytesOf}
 use Rattle.numbers.proofs.TwosComplement.{fits-yes}
-use Rattle.numbers.proofs.Access.{failed, passed, storing-written}
+use Rattle.numbers.proofs.Access.{every-width, failed, passed, storing-written}
 use Rattle.utf8.specs.Utf8.{utf8}
 use Rattle.refusal.specs.Numbers.{numberOf}
 use Rattle.refusal.specs.Answer.{Answer, result, refused, left}
@@ -72,6 +72,28 @@ module _ (f : ℕ → Bool) where
 pub narrowest-most : (f : ℕ → Bool) → narrowest f ≤ 8
 narrowest-most f =
     by-narrowest f (λ (w : ℕ). w ≤ 8) (λ _. omega arith) (λ _. omega arith) (λ _. omega arith) (λ _. omega arith)
+
+-- none that will do is narrower
+pub narrowest-least : (f : ℕ → Bool) (k : ℕ) → isWidth k ≡ true → f k ≡ true → narrowest f ≤ k
+narrowest-least f = every-width (λ (k : ℕ). f k ≡ true → narrowest f ≤ k) one two four (λ _. narrowest-most f)
+  where
+    one : f 1 ≡ true → narrowest f ≤ 1
+    one e = rw (is-1 f e) (omega arith)
+
+    two : f 2 ≡ true → narrowest f ≤ 2
+    two e = by (f 1) refl
+      where
+        by : (b : Bool) → f 1 ≡ b → narrowest f ≤ 2
+        by true a = omega (arith, one a)
+        by false a = rw (is-2 f a e) (omega arith)
+
+    four : f 4 ≡ true → narrowest f ≤ 4
+    four e = by (f 1) (f 2) refl refl
+      where
+        by : (b c : Bool) → f 1 ≡ b → f 2 ≡ c → narrowest f ≤ 4
+        by true c a g = omega (arith, one a)
+        by false true a g = omega (arith, two g)
+        by false false a g = rw (is-4 f a g e) (omega arith)
 
 pub doublings-most : (w : ℕ) → doublings w ≤ 3
 unfolding doublings

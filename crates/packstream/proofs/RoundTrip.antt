@@ -2,7 +2,7 @@
 use mathlib.Core.Path.{_≡_, refl, sym, ap, _∙_, subst}
 use mathlib.Core.Logic.{⊎-elim}
 use mathlib.Core.Bool.{Bool, true, false, true≢false, false≢true, not, _&&_}
-use mathlib.Core.List.{List, [], _∷_, _++_, append-assoc, append-nil}
+use mathlib.Core.List.{List, [], _∷_, _++_, append-assoc}
 use Prim.Native.Nat.{ℕ, zero, suc, _+_, _-_, _^_, _≤_, _<_}
 use native.Mathlib.Omega.{arith}
 use borrow.Author.Tests.{lt-ltb, le-ltb, ltb-true, leb-true, eq-eqb, not-true}
@@ -32,7 +32,7 @@ use Rattle.packstream.specs.declared.marker.Kind.{Kind}
 use Rattle.packstream.specs.declared.marker.Kind.the-variants as K
 use Rattle.packstream.proofs.Markers.{tabulate, agree}
 use Rattle.packstream.proofs.Packing.{by-narrowest, narrowest-width, narrowest-does, tiny-fits, integer-tiny, integer-wide, header-small, header-wide, length-wide}
-use Rattle.packstream.proofs.Here.{Here, here, here-room, here-part, here-front, here-back, here-inside, here-first, here-behind, Head, head-itself, head-behind, leaf-value, container-value, key-extent}
+use Rattle.packstream.proofs.Here.{Here, here, here-alone, here-room, here-part, here-front, here-back, here-inside, here-first, here-behind, Head, head-itself, head-behind, leaf-value, container-value, key-extent}
 
 -- content that is there
 content : {s : List ℕ} {at : ℕ} {v after : List ℕ} (n : ℕ) → Here s at v after → length v ≡ n → part s at n ≡ v
@@ -291,6 +291,11 @@ mutual
   same-entries (entry o start key place v es) at =
       rw (same-value v (at + length (packString key)), same-entries es (at + length (packString key) + length (pack v))) refl
 
+-- a value that is all of a message
+pub read-whole : (l : List ℕ) (v : Value) → length l ≤ mostBytes → valueAt l mostOpen 0 ≡ parsed v (0 + length l) → decode l ≡ result v
+unfolding messageOf
+read-whole l v b e = rw (le-ltb mostBytes (length l) b, e, eq-eqb (0 + length l) (length l) (omega arith)) refl
+
 module _ (v : Value) where
   there : (d : List ℕ) (at depth : ℕ) → packable depth v ≡ true → at + length (pack v) ≤ length d
       → valueAt (sets d at (pack v)) depth at ≡ parsed (located at v) (at + length (pack v))
@@ -301,28 +306,22 @@ module _ (v : Value) where
       subst (λ (n : ℕ). valueAt (sets d at (pack v)) depth n ≡ parsed (located n v) (n + length (pack v))) l
       (rw e (read-value v depth p (here (take at d) (pack v) (drop (at + length (pack v)) d))))
 
-  alone : (depth : ℕ) → packable depth v ≡ true → valueAt (pack v) depth 0 ≡ parsed (located 0 v) (length (pack v))
-  alone depth p =
-      rw append-nil at (read-value v depth p (here [] (pack v) [])) ∙ ap (λ (e : ℕ). parsed (located 0 v) e) (omega arith)
-
-  whole-message : packable mostOpen v ≡ true → length (pack v) ≤ mostBytes → decode (pack v) ≡ result (located 0 v)
-  unfolding messageOf
-  whole-message p l =
-      rw (le-ltb mostBytes (length (pack v)) l, alone mostOpen p, eq-eqb (length (pack v)) (length (pack v)) refl) refl
+  alone : (depth : ℕ) → packable depth v ≡ true → valueAt (pack v) depth 0 ≡ parsed (located 0 v) (0 + length (pack v))
+  alone depth p = read-value v depth p (here-alone (pack v))
 
 pub round-trip : (v : Value) → RoundTrip v
 round-trip v =
     record {
       read-back = λ before after depth p. read-value v depth p (here before (pack v) after);
       read-there = there v;
-      decoded = whole-message v;
+      decoded = λ p l. read-whole (pack v) (located 0 v) l (alone v mostOpen p);
       same = same-value v;
       distinct = λ w depth p q e. apart w depth p q e;
     }
   where
     apart : (w : Value) (depth : ℕ) → packable depth v ≡ true → packable depth w ≡ true → pack v ≡ pack w → forget v ≡ forget w
     apart w depth p q e =
-        let f : parsed (located 0 v) (length (pack v)) ≡ parsed (located 0 w) (length (pack w)) =
+        let f : parsed (located 0 v) (0 + length (pack v)) ≡ parsed (located 0 w) (0 + length (pack w)) =
         sym (alone v depth p) ∙ ap (λ (l : List ℕ). valueAt l depth 0) e ∙ alone w depth q in
         let g : located 0 v ≡ located 0 w = cc in
         sym (same-value v 0) ∙ ap forget g ∙ same-value w 0
