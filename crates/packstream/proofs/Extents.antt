@@ -3,7 +3,7 @@ use mathlib.Core.Path.{_≡_, refl, sym, ap, _∙_, subst}
 use mathlib.Core.Logic.{inl, inr}
 use mathlib.Core.Bool.{Bool, true, false, not, cond, true≢false, false≢true}
 use mathlib.Core.List.{List, [], _∷_}
-use Prim.Native.Nat.{ℕ, zero, suc, _+_, _-_, _≤_, _<_}
+use Prim.Native.Nat.{ℕ, zero, suc, _+_, _-_, _^_, _≤_, _<_}
 use native.Mathlib.Omega.{arith}
 use lib.Dec.{ltb, leb, eqb}
 use lib.ListN.{length, getD}
@@ -16,7 +16,9 @@ use Rattle.numbers.specs.Access.{unsignedAt}
 use Rattle.numbers.specs.declared.Unsigned.{Unsigned}
 use Rattle.numbers.specs.declared.Unsigned.the-variants as U
 use Rattle.numbers.proofs.Unsigned as Un
-use Rattle.numbers.proofs.Access.{unsigned-found}
+use Rattle.numbers.specs.BigEndian.{Bytes}
+use Rattle.numbers.proofs.Access.{unsigned-found, lies-lt}
+use Rattle.numbers.proofs.BigEndian.{pow256-mono}
 use Rattle.refusal.specs.declared.Refusal.{Refusal}
 use Rattle.refusal.specs.declared.Refusal.the-variants.{ValueTruncated, ReservedMarker, TooDeep, KeyNotString}
 use Rattle.packstream.specs.Marker.{markerOf, isString, hasSize}
@@ -29,7 +31,7 @@ use Rattle.packstream.specs.declared.marker.Kind.the-variants as K
 use Rattle.packstream.specs.declared.marker.Marker.{Marker}
 use Rattle.packstream.specs.declared.extent.Extent.{Extent}
 use Rattle.packstream.specs.declared.extent.Extent.the-variants as E
-use Rattle.packstream.proofs.Markers.{tellsSize, skip-one, SoundLeaf, sound-leaf, sound-container}
+use Rattle.packstream.proofs.Markers.{tellsSize, skip-one, SoundLeaf, sound-leaf, SoundContainer, sound-container}
 
 -- ---- sizes
 module _ (s : List ℕ) (at : ℕ) (m : Marker) where
@@ -190,7 +192,7 @@ module _ (s : List ℕ) (at : ℕ) where
       by (K.Leaf k) e h = inside-leaf s at k (markerOf (getD s at 0)) (sound-leaf (getD s at 0) k e)
       by (K.Container k) e h =
           by-test (Inside s at) (eqb depth 0) _ _ (λ d. tt)
-          (λ d. inside-container s at k (markerOf (getD s at 0)) (sound-container (getD s at 0) k e) h)
+          (λ d. inside-container s at k (markerOf (getD s at 0)) (sound-container (getD s at 0) k e .skips) h)
 
   pub key-inside : Inside s at (keyExtentAt s at)
   unfolding keyExtentAt
@@ -227,3 +229,37 @@ no-room s at = by-test Shut (ltb at (length s)) _ _ (λ h. by (markerOf (getD s 
 pub room-for : (s : List ℕ) (depth at : ℕ) (k : Container) (p n : ℕ) → E.Container k p n ≡ extentAt s depth at → 1 ≤ depth
 room-for s zero at k p n e = absurd (subst Shut (sym e) (no-room s at))
 room-for s (suc depth) at k p n e = omega arith
+
+-- ---- a container of bytes holds fewer than 2 to the 32 things
+abbrev pub Counted : Extent → Type 0
+Counted (E.Leaf k p n) = Unit {0}
+Counted (E.Container k p n) = n < 2 ^ 32
+Counted (E.Refused why place) = Unit {0}
+
+counted-leaf : (s : List ℕ) (at : ℕ) (k : Leaf) (m : Marker) → Counted (leafExtent s at k m)
+unfolding leafExtent
+counted-leaf s at k m =
+    by-size-found Counted at (sizeAt s at m) _ (λ n e. by-test Counted (reaches s (at + m .skip + m .width) n) _ _ (λ r. tt) (λ r. tt)) tt
+
+counted-container : (s : List ℕ) (at : ℕ) (k : Container) (m : Marker) → Bytes s → SoundContainer m → Counted (containerExtent s at k m)
+unfolding containerExtent
+counted-container s at k m b sound = by-size-found Counted at (sizeAt s at m) _ (λ n e. by n (eqb (m .width) 0) refl e) tt
+  where
+    by : (n : ℕ) (t : Bool) → eqb (m .width) 0 ≡ t → U.Number n ≡ cond t (U.Number (m .size)) (unsignedAt s (at + m .skip) (m .width)) → n < 2 ^ 32
+    by n true f e = let g : n ≡ m .size = cc e in omega (arith, sound .small)
+    by n false f e =
+        let found = unsigned-found s (at + m .skip) (m .width) n e in
+        let lt = lies-lt s (at + m .skip) (m .width) b (found .1) in
+        omega (arith, found .0, pow256-mono (m .width) 4 (sound .wide))
+
+pub count-bound : (s : List ℕ) (depth at : ℕ) (k : Container) (p n : ℕ) → Bytes s → E.Container k p n ≡ extentAt s depth at → n < 2 ^ 32
+count-bound s depth at k p n b e = subst Counted (sym e) counted
+  where
+    by : (j : Kind) → markerOf (getD s at 0) .kind ≡ j → Counted (kindExtent s depth at (markerOf (getD s at 0)) j)
+    by K.Reserved e = tt
+    by (K.Leaf j) e = counted-leaf s at j (markerOf (getD s at 0))
+    by (K.Container j) e =
+        by-test Counted (eqb depth 0) _ _ (λ d. tt) (λ d. counted-container s at j (markerOf (getD s at 0)) b (sound-container (getD s at 0) j e))
+
+    counted : Counted (extentAt s depth at)
+    counted = unfold extentAt in by-test Counted (ltb at (length s)) _ _ (λ h. by (markerOf (getD s at 0) .kind) refl) (λ h. tt)

@@ -2,8 +2,10 @@ pub mod Markers
 pub mod Extents
 pub mod Leaves
 pub mod KeySearch
-pub mod Walk
 pub mod Scratch
+pub mod Steps
+pub mod Answers
+pub mod Passing
 pub mod Packing
 pub mod Here
 pub mod RoundTrip

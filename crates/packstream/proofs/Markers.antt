@@ -99,7 +99,7 @@ tellsSize L.String = false
 soundKind : Kind → Marker → Bool
 soundKind K.Reserved m = true
 soundKind (K.Leaf k) m = cond (eqb (m .width) 0) (hasSize k (m .size)) (not (tellsSize k)) && leb 1 (m .skip + (m .width + m .size))
-soundKind (K.Container k) m = eqb (m .skip) 1
+soundKind (K.Container k) m = eqb (m .skip) 1 && (leb (m .width) 4 && leb (m .size) 15)
 
 sound : ℕ → Bool
 sound b = leb (markerOf b .skip) 1 && soundKind (markerOf b .kind) (markerOf b)
@@ -150,7 +150,16 @@ sound-leaf b k e =
     (sound-as b (K.Leaf k) e) in
     record { sized = both .0; reads = leb-true 1 (m .skip + (m .width + m .size)) (both .1) }
 
--- a container's marker is followed by what it holds
-pub sound-container : (b : ℕ) (k : Container) → markerOf b .kind ≡ K.Container k → markerOf b .skip ≡ 1
+-- a container's marker is followed by its size or by what it holds
+pub record SoundContainer (m : Marker) : Type 0 where
+  pub skips : m .skip ≡ 1
+  pub wide : m .width ≤ 4
+  pub small : m .size ≤ 15
+
+pub sound-container : (b : ℕ) (k : Container) → markerOf b .kind ≡ K.Container k → SoundContainer (markerOf b)
 unfolding soundKind
-sound-container b k e = eqb-true (markerOf b .skip) 1 (sound-as b (K.Container k) e)
+sound-container b k e =
+    let m = markerOf b in
+    let both = and-true (eqb (m .skip) 1) (leb (m .width) 4 && leb (m .size) 15) (sound-as b (K.Container k) e) in
+    let more = and-true (leb (m .width) 4) (leb (m .size) 15) (both .1) in
+    record { skips = eqb-true (m .skip) 1 (both .0); wide = leb-true (m .width) 4 (more .0); small = leb-true (m .size) 15 (more .1) }

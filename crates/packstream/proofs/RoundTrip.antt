@@ -23,7 +23,7 @@ use Rattle.utf8.specs.Utf8.{utf8}
 use Rattle.refusal.specs.Answer.{result}
 use Rattle.packstream.specs.Value.{Value, null, boolean, integer, float, bytes, string, list, dictionary, structure, Items, no-items, item, count, Entries, no-entries, entry, countEntries, relocate, relocateItems, relocateEntries, forget}
 use Rattle.packstream.specs.Marker.{itself, fixed, small, sized, lookup, markerOf}
-use Rattle.packstream.specs.Decode.{parsed, leafValue, leafAt, items, repeats, keyAt, entries, valueAt, mostOpen, mostBytes, messageOf, decode}
+use Rattle.packstream.specs.Decode.{parsed, leafValue, leafAt, items, repeats, keyAt, entries, valueAt, mostOpen, mostBytes, valueIn, messageOf, decode}
 use Rattle.packstream.specs.Packing.{doublings, wide, packBoolean, packFloat, isTiny, integerWidth, packInteger, sizeWidth, sizeHeader, packBytes, stringHeader, packString, listHeader, dictionaryHeader, structureHeader, pack, packItems, packEntries}
 use Rattle.packstream.specs.RoundTrip.{validText, packable, packableItems, packableEntries, located, locatedItems, locatedEntries, RoundTrip}
 use Rattle.packstream.specs.declared.marker.Leaf.the-variants as L
@@ -293,7 +293,7 @@ mutual
 
 -- a value that is all of a message
 pub read-whole : (l : List ℕ) (v : Value) → length l ≤ mostBytes → valueAt l mostOpen 0 ≡ parsed v (0 + length l) → decode l ≡ result v
-unfolding messageOf
+unfolding messageOf valueIn
 read-whole l v b e = rw (le-ltb mostBytes (length l) b, e, eq-eqb (0 + length l) (length l) (omega arith)) refl
 
 module _ (v : Value) where

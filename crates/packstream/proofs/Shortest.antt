@@ -29,7 +29,7 @@ use Rattle.refusal.specs.declared.Refusal.{Refusal}
 use Rattle.refusal.specs.declared.Refusal.the-variants.{ValueTruncated, TooDeep}
 use Rattle.packstream.specs.Value.{Value, null, boolean, integer, float, bytes, string, list, dictionary, structure, Items, no-items, item, count, Entries, no-entries, entry, countEntries, relocate, relocateItems, relocateEntries, forget}
 use Rattle.packstream.specs.Marker.{isString, lookup, markerOf}
-use Rattle.packstream.specs.Decode.{sizeAt, onSize, leafExtent, containerExtent, kindExtent, extentAt, keyKindExtent, keyExtentAt, Parse, parsed, failed, andThen, mapped, leafValue, leafAt, isText, items, repeats, KeyText, keyOf, keyAt, entries, containerAt, valueOf, valueAt, mostOpen, mostBytes, whole, messageOf, answerOf, decode}
+use Rattle.packstream.specs.Decode.{sizeAt, onSize, leafExtent, containerExtent, kindExtent, extentAt, keyKindExtent, keyExtentAt, Parse, parsed, failed, andThen, mapped, leafValue, leafAt, isText, items, repeats, KeyText, keyOf, keyAt, entries, containerAt, valueOf, valueAt, mostOpen, mostBytes, whole, valueIn, messageOf, answerOf, decode}
 use Rattle.packstream.specs.Packing.{narrowest, doublings, wide, isTiny, integerWidth, packInteger, sizeWidth, sizeHeader, headerLength, packBytes, stringHeader, packString, listHeader, dictionaryHeader, pack, packItems, packEntries}
 use Rattle.packstream.specs.Shortest.{Shortest, IntegerForm, itself, behind, IntegerForms}
 use Rattle.packstream.specs.declared.marker.Leaf.{Leaf}
@@ -443,9 +443,9 @@ whole-ends P size (parsed v end) h =
 whole-ends P size (failed why place) h = tt
 
 message-ends : (P : Value → ℕ → Type 0) (l : List ℕ) → Ends (valueAt l mostOpen 0) P → Ends (messageOf l) (λ v end. P v (length l))
-unfolding messageOf
+unfolding messageOf valueIn
 message-ends P l h =
-    by-test (λ y. Ends y (λ v end. P v (length l))) (ltb mostBytes (length l)) _ _ (λ e. tt) (λ e. whole-ends P (length l) (valueAt l mostOpen 0) h)
+    whole-ends P (length l) (valueIn l mostOpen 0) (by-test (λ y. Ends y P) (ltb mostBytes (length l)) _ _ (λ e. tt) (λ e. h))
 
 decoded : (P : Value → ℕ → Type 0) (l : List ℕ) (v : Value) → Ends (valueAt l mostOpen 0) P → decode l ≡ result v → P v (length l)
 decoded P l v h e = by (messageOf l) (message-ends P l h) e

@@ -12,7 +12,7 @@ use Rattle.utf8.specs.Utf8.{utf8, sequencesFrom, sequence, completes}
 use Rattle.refusal.specs.Answer.{Answer, result, refused}
 use Rattle.packstream.specs.Value.{Value, integer, string, dictionary, structure, no-items, item, no-entries, entry}
 use Rattle.packstream.specs.Marker.{markerOf, lookup}
-use Rattle.packstream.specs.Decode.{decode, messageOf, valueAt, items, entries, keyAt, keyExtentAt, extentAt, leafExtent, containerExtent, leafAt, leafValue, same, repeats}
+use Rattle.packstream.specs.Decode.{decode, messageOf, valueIn, valueAt, items, entries, keyAt, keyExtentAt, extentAt, leafExtent, containerExtent, leafAt, leafValue, same, repeats}
 
 record Case : Type 0 where
   message : List ℕ
@@ -50,5 +50,5 @@ cases =
     ∷ []
 
 pub hold : map (λ c. decode (c .message)) cases ≡ map (λ c. c .answer) cases
-unfolding messageOf valueAt items entries keyAt keyExtentAt extentAt leafExtent containerExtent leafAt leafValue same repeats markerOf lookup unsignedAt bigEndian twos utf8 sequencesFrom sequence completes leadingZeros
+unfolding messageOf valueIn valueAt items entries keyAt keyExtentAt extentAt leafExtent containerExtent leafAt leafValue same repeats markerOf lookup unsignedAt bigEndian twos utf8 sequencesFrom sequence completes leadingZeros
 hold = refl

@@ -179,18 +179,18 @@ mostOpen = 16
 abbrev pub mostBytes : ℕ
 mostBytes = 16384
 
+-- a longer thing is no message: 6 at place 0, before anything else
+unfoldable pub valueIn : List ℕ → ℕ → ℕ → Parse Value
+valueIn s depth at = cond (ltb mostBytes (length s)) (failed TooLong 0) (valueAt s depth at)
+
 -- "after the value, leftover bytes are 13": the place is the first of them
 abbrev pub whole : ℕ → Parse Value → Parse Value
 whole size (parsed v end) = cond (eqb end size) (parsed v end) (failed TrailingBytes end)
 whole size (failed why place) = failed why place
 
--- a longer thing is no message: 6 at place 0, before anything else
-abbrev pub bounded : List ℕ → Parse Value → Parse Value
-bounded s p = cond (ltb mostBytes (length s)) (failed TooLong 0) p
-
 -- the message as one value
 unfoldable pub messageOf : List ℕ → Parse Value
-messageOf s = bounded s (whole (length s) (valueAt s mostOpen 0))
+messageOf s = whole (length s) (valueIn s mostOpen 0)
 
 -- the paper's answer: the value, or the refusal by its number
 abbrev pub answerOf : {A : Type 0} → Parse A → Answer A

@@ -3,6 +3,7 @@ pub mod Marker
 pub mod Decode
 pub mod Keys
 pub mod Reading
+pub mod Walk
 pub mod Cases
 pub mod Packing
 pub mod RoundTrip

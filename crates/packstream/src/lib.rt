@@ -6,3 +6,4 @@ pub mod marker;
 pub mod pack;
 pub mod read;
 mod value;
+pub mod walk;

@@ -1,4 +1,14 @@
-// Reading values.
+// Reading messages and the values in them: document 01, "Values".
+ghost use mathlib.Core.Path.{_≡_};
+ghost use Prim.Native.Nat.{_≤_};
+ghost use lib.ListN.{length};
+ghost use Rattle.packstream.specs.Decode.{valueAt, valueIn, decode};
+ghost use Rattle.packstream.specs.Reading.{readingOf, told, tellMessage, tellValue};
+use crate::extent::Extent;
+use crate::extent::extent_at;
+use crate::leaf::leaf_head;
+use crate::marker::Container;
+use crate::value::value;
 use refusal::Refusal;
 
 // What a value is, with where its parts lie in the message.
@@ -11,10 +21,11 @@ pub enum Head {
     // The content: `size` bytes from `start` on.
     Bytes { start: usize, size: usize },
     String { start: usize, size: usize },
-    // `count` items; the first one's marker is at `first`, and each other's where the one before it ends.
+    // `count` items: the first one's marker is at `first`, and each other's where the one before it ends.
     List { first: usize, count: usize },
     // `count` entries, each a key and a value, laid out in the same way.
     Dictionary { first: usize, count: usize },
+    // `count` fields, laid out in the same way.
     Structure { tag: u8, first: usize, count: usize },
 }
 
@@ -25,16 +36,66 @@ pub enum Reading {
     Refused { refusal: Refusal, place: usize },
 }
 
-// What stands at an offset of a message that was read already.
-pub enum Peek {
-    Value(Head),
-    // No value begins here.
-    Nothing,
+// At most so many containers may be open.
+const MOST_OPEN: usize = 16;
+
+// A message has at most so many bytes.
+const MOST_BYTES: usize = 16384;
+
+// A message of at most so many bytes is read with a small scratch, which is quick to clear.
+const SHORT: usize = 256;
+
+fn read_short(message: &[u8], at: usize, depth: usize) -> Reading
+    requires { ⌜ length (now message) ≤ 256 ⌝ }
+    ensures { λ r. ⌜ r ≡ readingOf (valueAt (now (message .entry)) depth at) ⌝ }
+{
+    let mut scratch = [0u16; SHORT];
+    value(message, at, depth, &mut scratch, 0)
 }
 
-// Where a value of a message that was read already ends.
-pub enum Skip {
-    To(usize),
-    // No value begins here.
-    Nothing,
+fn read_long(message: &[u8], at: usize, depth: usize) -> Reading
+    requires { ⌜ length (now message) ≤ 16384 ⌝ }
+    ensures { λ r. ⌜ r ≡ readingOf (valueAt (now (message .entry)) depth at) ⌝ }
+{
+    let mut scratch = [0u16; MOST_BYTES];
+    value(message, at, depth, &mut scratch, 0)
+}
+
+// Reads the value at `at` of a message, with room for `depth` open containers. Refuses with 6 at place 0 where the message is too long, and else
+// with 7 to 12, at the place of the leftmost failure.
+pub fn read_value(message: &[u8], at: usize, depth: usize) -> Reading
+    ensures { λ r. ⌜ told r ≡ tellValue (valueIn (now (message .entry)) depth at) ⌝ }
+{
+    if MOST_BYTES < message.len() {
+        return Reading::Refused {
+            refusal: Refusal::TooLong,
+            place: 0,
+        };
+    }
+    if message.len() <= SHORT {
+        return read_short(message, at, depth);
+    }
+    read_long(message, at, depth)
+}
+
+// Reads a whole message as one value. Refuses as `read_value` does, and with 13 where bytes are left over.
+pub fn read_message(message: &[u8]) -> Reading
+    ensures { λ r. ⌜ told r ≡ tellMessage (now (message .entry)) (decode (now (message .entry))) ⌝ }
+{
+    let reading = read_value(message, 0, MOST_OPEN);
+    match reading {
+        Reading::Value { head: _, end } => {
+            if end == message.len() {
+                return reading;
+            }
+            Reading::Refused {
+                refusal: Refusal::TrailingBytes,
+                place: end,
+            }
+        }
+        Reading::Refused {
+            refusal: _,
+            place: _,
+        } => reading,
+    }
 }

@@ -19,7 +19,7 @@ use Rattle.packstream.specs.declared.extent.Extent.the-variants as E
 use Rattle.packstream.proofs.Extents.{Inside, extent-inside, room-for}
 use Rattle.packstream.proofs.KeySearch.{KeyRead, key-read, key-refused}
 use Rattle.packstream.proofs.Scratch.{take-less, length-keep, take-keep, keys-kept, inside-kept}
-use Rattle.packstream.proofs.Walk.{read-value, read-refused, value-bounds, by-leaf, by-refused, container-as, ItemsLeft, items-none, items-done, items-next, items-stop, EntriesLeft, entries-none, entries-done, entries-stop, entries-halt, entries-next, refused-as, list-read, dictionary-read, no-tag, fields-refused, structure-read}
+use Rattle.packstream.proofs.Steps.{read-value, read-refused, value-bounds, by-leaf, by-refused, container-as, ItemsLeft, items-none, items-done, items-next, items-stop, EntriesLeft, entries-none, entries-done, entries-stop, entries-halt, entries-next, refused-as, list-read, dictionary-read, no-tag, fields-refused, structure-read}
 use Rattle.packstream.proofs.value.dictionary.Reads as dictionary
 use Rattle.packstream.proofs.value.dictionary.Kinds as dictionary-kinds
 use Rattle.packstream.proofs.value.+dictionary+list+structure+value.Lts-dictionary as dictionary-lts
