@@ -8,5 +8,7 @@ pub mod Answers
 pub mod Passing
 pub mod Packing
 pub mod Here
+pub mod Headers
 pub mod RoundTrip
+pub mod Forms
 pub mod Shortest

@@ -1,26 +1,25 @@
 -- Laws of the packers: widths, what stands behind a marker, and which answer is given. Assumes nothing.
-use mathlib.Core.Path.{_≡_, refl, sym, ap, _∙_, subst}
-use mathlib.Core.Bool.{Bool, true, false, false≢true, not, cond, _&&_}
-use mathlib.Core.List.{List, [], _∷_, _++_}
-use Prim.Native.Nat.{ℕ, suc, _+_, _*_, _^_, _≤_, _<_}
+use mathlib.Core.Path.{_≡_, refl, sym, ap, _∙_}
+use mathlib.Core.Bool.{Bool, true, false, false≢true, not, cond}
+use mathlib.Core.List.{List, [], _∷_}
+use Prim.Native.Nat.{ℕ, _+_, _^_, _≤_, _<_}
 use native.Mathlib.Numerals.{add-one}
 use native.Mathlib.Omega.{arith}
 use lib.Dec.{ltb, leb, eqb}
 use lib.IntN.{ℤ, pos, negsuc}
 use lib.ListN.{length, set, length-set, length-append}
 use lib.Seq.{sets, length-sets, take-length}
-use lib.Signed.{mag, leZ, ltZ}
+use lib.Signed.{leZ, ltZ}
 use borrow.Author.Tests.{lt-ltb, le-ltb, ltb-true, ltb-false, leb-true, le-leb, lt-leb}
 use mir.Syntax.{w64}
 use mir.Val.{SFits}
 use Rattle.slices.specs.Parts.{reaches, fits, copied}
-use Rattle.slices.proofs.Parts.{sets-append, fits-yes as both-reach}
+use Rattle.slices.proofs.Parts.{reaches-yes, sets-append, fits-yes as both-reach}
 use Rattle.slices.proofs.Tests.{and-true}
 use Rattle.numbers.specs.BigEndian.{bytesOf, holds}
 use Rattle.numbers.specs.TwosComplement.{bitsOf, fitsIn}
 use Rattle.numbers.specs.Access.{isWidth, storing, stored}
 use Rattle.numbers.specs.declared.Stored.{Stored}
-use Rattle.numbers.specs.declared.Stored.the-variants.{Written}
 use Rattle.numbers.proofs.BigEndian.{length-bytesOf}
 use Rattle.numbers.proofs.TwosComplement.{fits-yes}
 use Rattle.numbers.proofs.Access.{every-width, failed, passed, storing-written}
@@ -294,3 +293,18 @@ module _ (d : List ℕ) (at : ℕ) (form : Answer (List ℕ)) where
 
     pub packs : (f : List ℕ) → not t ≡ false → f ≡ sets d at v → Packs d at form (P.To (at + k)) f
     packs f n p = let r = passed q n in rw (e, ← l, r) (ap (λ (n : ℕ). result (at + n)) l, p)
+
+-- for callers: where there is room, the bytes stand there, and the answer is the offset past them
+pub packed-there : (d : List ℕ) (at : ℕ) (form : Answer (List ℕ)) (r : Packed) (e v : List ℕ) → Packs d at form r e → form ≡ result v
+    → at + length v ≤ length d → (r ≡ P.To (at + length v)) × (e ≡ sets d at v)
+packed-there d at form r e v p f room =
+    let y : reaches d at (length v) ≡ true = reaches-yes d at (length v) room in
+    let t : told r ≡ result (at + length v) = rw (f, y) at (p .0) in
+    (to r t, rw (f, y) at (p .1))
+  where
+    to : {n : ℕ} (r : Packed) → told r ≡ result n → r ≡ P.To n
+    to (P.To end) t = cc
+    to (P.Refused why) t = let z : _≡_ {A = ℕ} 0 1 = cc in absurd (never z)
+      where
+        never : _≡_ {A = ℕ} 0 1 → ⊥
+        never z = omega arith

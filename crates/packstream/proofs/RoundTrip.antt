@@ -1,22 +1,22 @@
 -- What is packed reads back: leaves, headers with what they hold, and so every value. Assumes nothing.
 use mathlib.Core.Path.{_≡_, refl, sym, ap, _∙_, subst}
 use mathlib.Core.Logic.{⊎-elim}
-use mathlib.Core.Bool.{Bool, true, false, true≢false, false≢true, not, _&&_}
+use mathlib.Core.Bool.{Bool, true, false, false≢true, not, _&&_}
 use mathlib.Core.List.{List, [], _∷_, _++_, append-assoc}
 use Prim.Native.Nat.{ℕ, zero, suc, _+_, _-_, _^_, _≤_, _<_}
 use native.Mathlib.Omega.{arith}
 use borrow.Author.Tests.{lt-ltb, le-ltb, ltb-true, leb-true, eq-eqb, not-true}
-use lib.Dec.{ltb, leb, eqb}
+use lib.Dec.{ltb, leb}
 use lib.IntN.{ℤ, pos, negsuc}
 use lib.ListN.{length, take, drop, length-append}
 use lib.Seq.{sets, sets-eq, length-take-le}
 use Rattle.slices.specs.Parts.{part}
 use Rattle.slices.proofs.Tests.{and-true, lt-or-ge}
-use Rattle.numbers.specs.BigEndian.{bigEndian, bytesOf, holds}
-use Rattle.numbers.specs.TwosComplement.{twos, bitsOf, fitsIn}
+use Rattle.numbers.specs.BigEndian.{bytesOf, holds}
+use Rattle.numbers.specs.TwosComplement.{bitsOf, fitsIn}
 use Rattle.numbers.specs.Access.{isWidth}
 use Rattle.numbers.proofs.BigEndian.{length-bytesOf, bytesOf-one, read-back}
-use Rattle.numbers.proofs.TwosComplement.{bits-lt, bits-pos}
+use Rattle.numbers.proofs.TwosComplement.{bits-lt}
 use Rattle.numbers.proofs.Access.{every-width, width-least, holds-lt}
 use Rattle.numbers.proofs.RoundTrip.{round-trip as of-width}
 use Rattle.utf8.specs.Utf8.{utf8}
@@ -32,7 +32,8 @@ use Rattle.packstream.specs.declared.marker.Kind.{Kind}
 use Rattle.packstream.specs.declared.marker.Kind.the-variants as K
 use Rattle.packstream.proofs.Markers.{tabulate, agree}
 use Rattle.packstream.proofs.Packing.{by-narrowest, narrowest-width, narrowest-does, tiny-fits, integer-tiny, integer-wide, header-small, header-wide, length-wide}
-use Rattle.packstream.proofs.Here.{Here, here, here-alone, here-room, here-part, here-front, here-back, here-inside, here-first, here-behind, Head, head-itself, head-behind, leaf-value, container-value, key-extent}
+use Rattle.packstream.proofs.Here.{Here, here, here-alone, here-room, here-part, here-front, here-back, here-inside, here-first, here-behind}
+use Rattle.packstream.proofs.Headers.{Header, header-itself, header-behind, leaf-value, container-value, key-extent}
 
 -- content that is there
 content : {s : List ℕ} {at : ℕ} {v after : List ℕ} (n : ℕ) → Here s at v after → length v ≡ n → part s at n ≡ v
@@ -77,46 +78,46 @@ row-marker {k} {row} r n h =
     (λ e. absurd (false≢true (sym e ∙ h)))
 
 module _ {s : List ℕ} {at : ℕ} {after : List ℕ} {k : Kind} (n : ℕ) (h : holds 4 n ≡ true) where
-  pub head-wide : {row : ℕ} → Row k row → Here s at (wide row (sizeWidth n) n) after → Head s at k n (at + length (wide row (sizeWidth n) n))
-  head-wide {row} r w =
+  pub header-in-row : {row : ℕ} → Row k row → Here s at (wide row (sizeWidth n) n) after → Header s at k n (at + length (wide row (sizeWidth n) n))
+  header-in-row {row} r w =
       let f : ℕ → Bool = λ w. holds w n in
       let l : n < 256 ^ 4 = holds-lt 4 n h in
       let big : n < 256 ^ 8 = omega arith in
       let e : at + 1 + sizeWidth n ≡ at + length (wide row (sizeWidth n) n) = omega (arith, length-wide row (sizeWidth n) n) in
-      subst (λ (p : ℕ). Head s at k n p) e
-      (head-behind k (sizeWidth n) n w (row-marker r n h) (narrowest-width f) (holds-lt (sizeWidth n) n (narrowest-does f (lt-ltb n (256 ^ 8) big))))
+      subst (λ (p : ℕ). Header s at k n p) e
+      (header-behind k (sizeWidth n) n w (row-marker r n h) (narrowest-width f) (holds-lt (sizeWidth n) n (narrowest-does f (lt-ltb n (256 ^ 8) big))))
 
-  pub head-sized : {first row : ℕ} → Rows k first row → Here s at (sizeHeader first row n) after → Head s at k n (at + length (sizeHeader first row n))
-  head-sized {first} {row} r w = ⊎-elim low high (lt-or-ge n 16)
+  pub header-sized : {first row : ℕ} → Rows k first row → Here s at (sizeHeader first row n) after → Header s at k n (at + length (sizeHeader first row n))
+  header-sized {first} {row} r w = ⊎-elim low high (lt-or-ge n 16)
     where
-      low : n < 16 → Head s at k n (at + length (sizeHeader first row n))
-      low l = rw (header-small first row n l) (head-itself (small k n) (rw (header-small first row n l) at w) (r .tiny n l) refl)
+      low : n < 16 → Header s at k n (at + length (sizeHeader first row n))
+      low l = rw (header-small first row n l) (header-itself (small k n) (rw (header-small first row n l) at w) (r .tiny n l) refl)
 
-      high : 16 ≤ n → Head s at k n (at + length (sizeHeader first row n))
-      high l = rw (header-wide first row n l) (head-wide (r .wider) (rw (header-wide first row n l) at w))
+      high : 16 ≤ n → Header s at k n (at + length (sizeHeader first row n))
+      high l = rw (header-wide first row n l) (header-in-row (r .wider) (rw (header-wide first row n l) at w))
 
 -- ---- leaves
 module _ {s : List ℕ} {at : ℕ} {after : List ℕ} (depth : ℕ) where
   read-null : Here s at (0xC0 ∷ []) after → valueAt s depth at ≡ parsed null (at + 1)
   unfolding markerOf lookup leafAt leafValue
   read-null h =
-      leaf-value L.Null depth (head-itself (fixed L.Null 0 0) h refl refl) (omega (arith, here-room h)) ∙ ap (λ (e : ℕ). parsed null e) (omega arith)
+      leaf-value L.Null depth (header-itself (fixed L.Null 0 0) h refl refl) (omega (arith, here-room h)) ∙ ap (λ (e : ℕ). parsed null e) (omega arith)
 
   read-boolean : (b : Bool) → Here s at (packBoolean b) after → valueAt s depth at ≡ parsed (boolean b) (at + length (packBoolean b))
   unfolding markerOf lookup leafAt leafValue
   read-boolean true h =
       let z : at + 0 ≡ at = omega arith in
-      leaf-value L.Boolean depth (head-itself (itself L.Boolean 0) h refl refl) (omega (arith, here-room h)) ∙ rw (z, here-first h) refl
+      leaf-value L.Boolean depth (header-itself (itself L.Boolean 0) h refl refl) (omega (arith, here-room h)) ∙ rw (z, here-first h) refl
   read-boolean false h =
       let z : at + 0 ≡ at = omega arith in
-      leaf-value L.Boolean depth (head-itself (itself L.Boolean 0) h refl refl) (omega (arith, here-room h)) ∙ rw (z, here-first h) refl
+      leaf-value L.Boolean depth (header-itself (itself L.Boolean 0) h refl refl) (omega (arith, here-room h)) ∙ rw (z, here-first h) refl
 
   read-float : (bits : ℕ) → holds 8 bits ≡ true → Here s at (packFloat bits) after → valueAt s depth at ≡ parsed (float bits) (at + length (packFloat bits))
   unfolding markerOf lookup leafAt leafValue
   read-float bits b h =
       let l : length (bytesOf 8 bits) ≡ 8 = length-bytesOf 8 bits in
       let e : at + 1 + 8 ≡ at + length (packFloat bits) = omega arith in
-      leaf-value L.Float depth (head-itself (fixed L.Float 8 0) h refl refl) (omega (arith, here-room h))
+      leaf-value L.Float depth (header-itself (fixed L.Float 8 0) h refl refl) (omega (arith, here-room h))
       ∙ rw (content 8 (here-behind h) l, read-back 8 bits (holds-lt 8 bits b), e) refl
 
 -- the markers of Integers
@@ -139,7 +140,7 @@ module _ {s : List ℕ} {at : ℕ} {after : List ℕ} (depth : ℕ) (z : ℤ) wh
       let b : bytesOf 1 (bitsOf 1 z) ≡ bitsOf 1 z ∷ [] = bytesOf-one (bitsOf 1 z) (bits-lt 1 z f) in
       let l : length (bytesOf 1 (bitsOf 1 z)) ≡ 1 = length-bytesOf 1 (bitsOf 1 z) in
       let o : at + 0 ≡ at = omega arith in
-      leaf-value L.Integer depth (head-itself (itself L.Integer 0) (rw b at h) (tiny-marker z t) refl) (omega (arith, here-room h, l))
+      leaf-value L.Integer depth (header-itself (itself L.Integer 0) (rw b at h) (tiny-marker z t) refl) (omega (arith, here-room h, l))
       ∙ rw (o, content 1 h l, of-width 1 .signed (omega arith) z f, l) refl
 
   pub read-wide : (w : ℕ) → isWidth w ≡ true → fitsIn w z ≡ true → Here s at (wide 0xC8 w (bitsOf w z)) after
@@ -148,7 +149,7 @@ module _ {s : List ℕ} {at : ℕ} {after : List ℕ} (depth : ℕ) (z : ℤ) wh
   read-wide w v f h =
       let l : length (bytesOf w (bitsOf w z)) ≡ w = length-bytesOf w (bitsOf w z) in
       let e : at + 1 + w ≡ at + length (wide 0xC8 w (bitsOf w z)) = omega arith in
-      leaf-value L.Integer depth (head-itself (fixed L.Integer w 0) h (wide-marker w v) refl) (omega (arith, here-room h, l))
+      leaf-value L.Integer depth (header-itself (fixed L.Integer w 0) h (wide-marker w v) refl) (omega (arith, here-room h, l))
       ∙ rw (content w (here-behind h) l, of-width w .signed (width-least w v) z f, e) refl
 
   pub read-integer : fitsIn 8 z ≡ true → Here s at (packInteger z) after → valueAt s depth at ≡ parsed (integer z) (at + length (packInteger z))
@@ -171,7 +172,7 @@ module _ {s : List ℕ} {at : ℕ} {after : List ℕ} (v : List ℕ) where
   read-bytes depth b h =
       let header = wide 0xCC (sizeWidth (length v)) (length v) in
       let w = here-back header v h in
-      leaf-value L.Bytes depth (head-wide (length v) b bytes-row (here-front header v h)) (here-room w)
+      leaf-value L.Bytes depth (header-in-row (length v) b bytes-row (here-front header v h)) (here-room w)
       ∙ rw (here-part w, past at header v) refl
 
   pub read-string : (depth : ℕ) → validText v ≡ true → Here s at (packString v) after
@@ -181,7 +182,7 @@ module _ {s : List ℕ} {at : ℕ} {after : List ℕ} (v : List ℕ) where
       let header = stringHeader (length v) in
       let w = here-back header v h in
       let b = and-true (holds 4 (length v)) (utf8 v) t in
-      leaf-value L.String depth (head-sized (length v) (b .0) string-rows (here-front header v h)) (here-room w)
+      leaf-value L.String depth (header-sized (length v) (b .0) string-rows (here-front header v h)) (here-room w)
       ∙ rw (here-part w, b .1, past at header v) refl
 
   -- a key
@@ -192,7 +193,7 @@ module _ {s : List ℕ} {at : ℕ} {after : List ℕ} (v : List ℕ) where
       let header = stringHeader (length v) in
       let w = here-back header v h in
       let b = and-true (holds 4 (length v)) (utf8 v) t in
-      rw (key-extent (head-sized (length v) (b .0) string-rows (here-front header v h)) (here-room w)) (rw (here-part w, b .1, r, past at header v) refl)
+      rw (key-extent (header-sized (length v) (b .0) string-rows (here-front header v h)) (here-room w)) (rw (here-part w, b .1, r, past at header v) refl)
 
 -- ---- headers with what they hold
 -- a container that is read behind its header, where it ends
@@ -201,13 +202,13 @@ module _ {s : List ℕ} {at : ℕ} {after : List ℕ} (depth n : ℕ) (held : Li
       → items (λ p. valueAt s depth p) n (at + length (listHeader n)) ≡ parsed vs (at + length (listHeader n) + length held)
       → valueAt s (suc depth) at ≡ parsed (list vs) (at + length (listHeader n ++ held))
   read-list b h e =
-      container-value C.List depth (head-sized n b list-rows (here-front (listHeader n) held h)) ∙ rw (e, past at (listHeader n) held) refl
+      container-value C.List depth (header-sized n b list-rows (here-front (listHeader n) held h)) ∙ rw (e, past at (listHeader n) held) refl
 
   pub read-dictionary : {es : Entries} → holds 4 n ≡ true → Here s at (dictionaryHeader n ++ held) after
       → entries s (λ p. valueAt s depth p) [] n (at + length (dictionaryHeader n)) ≡ parsed es (at + length (dictionaryHeader n) + length held)
       → valueAt s (suc depth) at ≡ parsed (dictionary es) (at + length (dictionaryHeader n ++ held))
   read-dictionary b h e =
-      container-value C.Dictionary depth (head-sized n b dictionary-rows (here-front (dictionaryHeader n) held h))
+      container-value C.Dictionary depth (header-sized n b dictionary-rows (here-front (dictionaryHeader n) held h))
       ∙ rw (e, past at (dictionaryHeader n) held) refl
 
   pub read-structure : {vs : Items} (tag : ℕ) → n < 16 → Here s at (structureHeader tag n ++ held) after
@@ -216,7 +217,7 @@ module _ {s : List ℕ} {at : ℕ} {after : List ℕ} (depth n : ℕ) (held : Li
   read-structure tag b h e =
       let t = here-behind h in
       let two : at + 1 + 1 ≡ at + 2 = omega arith in
-      container-value C.Structure depth (head-itself (small (K.Container C.Structure) n) h (structure-tiny n b) refl)
+      container-value C.Structure depth (header-itself (small (K.Container C.Structure) n) h (structure-tiny n b) refl)
       ∙ rw (lt-ltb (at + 1) (length s) (here-inside t), here-first t, two, e, past at (structureHeader tag n) held) refl
 
 -- ---- every value

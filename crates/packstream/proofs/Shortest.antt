@@ -1,308 +1,38 @@
--- No accepted form is shorter than the packed one, kind by kind and so for every value; the forms of an Integer. Assumes nothing.
-use mathlib.Core.Path.{_≡_, refl, sym, ap, ap₂, _∙_, subst}
-use mathlib.Core.Logic.{_⊎_, inl, inr, ⊎-elim}
-use mathlib.Core.Bool.{Bool, true, false, true≢false, false≢true, cond, _&&_, _||_}
+-- No accepted form is shorter than the packed one; and the accepted forms of an Integer. Assumes nothing.
+use mathlib.Core.Path.{_≡_, refl, sym, ap, _∙_, subst}
 use mathlib.Core.List.{List, [], _∷_, _++_}
-use Prim.Native.Nat.{ℕ, zero, suc, _+_, _-_, _^_, _≤_, _<_}
+use Prim.Native.Nat.{ℕ, zero, suc, _+_, _≤_}
 use native.Mathlib.Omega.{arith}
-use borrow.Author.Tests.{lt-ltb, ltb-true, leb-true, eqb-true, ne-eqb}
-use lib.Dec.{ltb, leb, eqb}
+use borrow.Author.Tests.{eqb-true}
+use lib.Dec.{ltb, eqb}
 use lib.IntN.{ℤ}
 use lib.ListN.{length, getD, length-append}
 use lib.Seq.{take-all}
-use Rattle.slices.specs.Parts.{part, reaches}
-use Rattle.slices.proofs.Parts.{length-part, part-cons, reaches-le}
-use Rattle.slices.proofs.Tests.{and-true}
-use Rattle.slices.proofs.Below.{below}
-use Rattle.numbers.specs.BigEndian.{bigEndian, bytesOf, holds, Bytes}
-use Rattle.numbers.specs.TwosComplement.{twos, bitsOf, fitsIn}
-use Rattle.numbers.specs.Access.{isWidth, unsignedAt}
-use Rattle.numbers.specs.declared.Unsigned.{Unsigned}
-use Rattle.numbers.specs.declared.Unsigned.the-variants as U
-use Rattle.numbers.proofs.BigEndian.{length-bytesOf, big-lt, big-one, bytes-part}
-use Rattle.numbers.proofs.TwosComplement.{twos-fits}
-use Rattle.numbers.proofs.Access.{width-least, width-most, unsigned-found, lies-lt}
-use Rattle.numbers.proofs.RoundTrip.{round-trip as of-width}
+use Rattle.slices.specs.Parts.{part}
+use Rattle.numbers.specs.BigEndian.{bytesOf, Bytes}
+use Rattle.numbers.specs.TwosComplement.{bitsOf}
+use Rattle.numbers.proofs.BigEndian.{length-bytesOf}
+use Rattle.numbers.proofs.Access.{width-most}
 use Rattle.utf8.specs.Utf8.{utf8}
 use Rattle.refusal.specs.Answer.{result}
-use Rattle.refusal.specs.declared.Refusal.{Refusal}
-use Rattle.refusal.specs.declared.Refusal.the-variants.{ValueTruncated, TooDeep}
+use Rattle.refusal.specs.declared.Refusal.the-variants.{TooDeep}
 use Rattle.packstream.specs.Value.{Value, null, boolean, integer, float, bytes, string, list, dictionary, structure, Items, no-items, item, count, Entries, no-entries, entry, countEntries, relocate, relocateItems, relocateEntries, forget}
-use Rattle.packstream.specs.Marker.{isString, lookup, markerOf}
-use Rattle.packstream.specs.Decode.{sizeAt, onSize, leafExtent, containerExtent, kindExtent, extentAt, keyKindExtent, keyExtentAt, Parse, parsed, failed, andThen, mapped, leafValue, leafAt, isText, items, repeats, KeyText, keyOf, keyAt, entries, containerAt, valueOf, valueAt, mostOpen, mostBytes, whole, valueIn, messageOf, answerOf, decode}
-use Rattle.packstream.specs.Packing.{narrowest, doublings, wide, isTiny, integerWidth, packInteger, sizeWidth, sizeHeader, headerLength, packBytes, stringHeader, packString, listHeader, dictionaryHeader, pack, packItems, packEntries}
+use Rattle.packstream.specs.Decode.{extentAt, keyExtentAt, Parse, parsed, failed, andThen, mapped, leafValue, leafAt, isText, items, repeats, KeyText, keyOf, keyAt, entries, containerAt, valueOf, valueAt, mostOpen, mostBytes, whole, valueIn, messageOf, answerOf, decode}
+use Rattle.packstream.specs.Packing.{wide, headerLength, packString, listHeader, dictionaryHeader, pack, packItems, packEntries}
 use Rattle.packstream.specs.Shortest.{Shortest, IntegerForm, itself, behind, IntegerForms}
 use Rattle.packstream.specs.declared.marker.Leaf.{Leaf}
 use Rattle.packstream.specs.declared.marker.Leaf.the-variants as L
 use Rattle.packstream.specs.declared.marker.Container.{Container}
 use Rattle.packstream.specs.declared.marker.Container.the-variants as C
-use Rattle.packstream.specs.declared.marker.Kind.{Kind}
 use Rattle.packstream.specs.declared.marker.Kind.the-variants as K
-use Rattle.packstream.specs.declared.marker.Marker.{Marker}
 use Rattle.packstream.specs.declared.extent.Extent.{Extent}
 use Rattle.packstream.specs.declared.extent.Extent.the-variants as E
 use Rattle.packstream.proofs.Extents.{Inside, LeafInside, extent-inside, key-inside}
-use Rattle.packstream.proofs.Packing.{narrowest-least, length-wide, length-tiny, length-integer, length-boolean, length-header}
-use Rattle.packstream.proofs.Here.{here-alone, Head}
+use Rattle.packstream.proofs.Packing.{length-wide, length-header}
+use Rattle.packstream.proofs.Here.{here-alone}
+use Rattle.packstream.proofs.Headers.{Header, by-test, Headed, KeyHeaded, headed, key-headed}
+use Rattle.packstream.proofs.Forms.{Formed, integer-formed, list-least, dictionary-least, structure-least, string-least, leaf-least}
 use Rattle.packstream.proofs.RoundTrip.{read-tiny, read-wide, read-whole}
-
--- ---- what every marker takes
--- a size in the marker, in no more bytes than its shortest header; or behind the marker, in a width
-sizeForm : Marker → Bool
-sizeForm m = cond (eqb (m .width) 0) (leb (headerLength (m .size)) (m .skip)) (eqb (m .skip) 1 && isWidth (m .width))
-
--- an Integer in the marker itself, or in so many bytes behind its marker
-integerForm : ℕ → Marker → Bool
-integerForm b m =
-    eqb (m .width) 0
-    && ((eqb (m .skip) 0 && (eqb (m .size) 1 && isTiny (twos 1 b))) || (eqb (m .skip) 1 && (isWidth (m .size) && eqb b (0xC8 + doublings (m .size)))))
-
-leafForm : Leaf → ℕ → Marker → Bool
-leafForm L.Null b m = true
-leafForm L.Boolean b m = true
-leafForm L.Integer b m = integerForm b m
-leafForm L.Float b m = eqb (m .skip) 1
-leafForm L.Bytes b m = eqb (m .skip) 1 && isWidth (m .width)
-leafForm L.String b m = sizeForm m
-
-containerForm : Container → Marker → Bool
-containerForm C.List m = sizeForm m
-containerForm C.Dictionary m = sizeForm m
-containerForm C.Structure m = eqb (m .skip) 1
-
-kindForm : Kind → ℕ → Marker → Bool
-kindForm K.Reserved b m = true
-kindForm (K.Leaf k) b m = leafForm k b m
-kindForm (K.Container k) b m = containerForm k m
-
-marker-form : (b : ℕ) → b < 256 → kindForm (markerOf b .kind) b (markerOf b) ≡ true
-unfolding kindForm leafForm containerForm integerForm sizeForm markerOf lookup twos doublings narrowest
-marker-form b h = below (λ b. kindForm (markerOf b .kind) b (markerOf b)) 256 refl b h
-
-or-true : (a b : Bool) → (a || b) ≡ true → (a ≡ true) ⊎ (b ≡ true)
-or-true true b e = inl refl
-or-true false b e = inr e
-
--- the marker of a head has its kind's form
-head-form : (s : List ℕ) {at n p : ℕ} {k : Kind} → Bytes s → (h : Head s at k n p) → kindForm k (getD s at 0) (h .marker) ≡ true
-head-form s {at} {k = k} bs h =
-    let b = getD s at 0 in
-    subst (λ (j : Kind). kindForm j b (h .marker) ≡ true) (h .kind)
-    (subst (λ (m : Marker). kindForm (m .kind) b m ≡ true) (h .is) (marker-form b (bs at)))
-
--- ---- sizes
-module _ (s : List ℕ) (bs : Bytes s) (at n : ℕ) (m : Marker) (e : sizeAt s at m ≡ U.Number n) where
-  -- behind the marker it has no less than its narrowest width
-  behind-least : isWidth (m .width) ≡ true → sizeWidth n ≤ m .width
-  behind-least w =
-      let f = unsigned-found s (at + m .skip) (m .width) n (sym (rw (ne-eqb (m .width) 0 (some (m .width) (width-least (m .width) w))) at e)) in
-      narrowest-least (λ w. holds w n) (m .width) w
-      (lt-ltb n (256 ^ m .width) (rw (f .0) (lies-lt s (at + m .skip) (m .width) bs (f .1))))
-    where
-      some : (k : ℕ) → 1 ≤ k → k ≡ 0 → ⊥
-      some k h z = omega arith
-
-  header-least : sizeForm m ≡ true → headerLength n ≤ m .skip + m .width
-  unfolding sizeForm
-  header-least f = by (eqb (m .width) 0) refl
-    where
-      one-more : headerLength n ≤ 1 + sizeWidth n
-      one-more = by-short (ltb n 16)
-        where
-          by-short : (b : Bool) → cond b 1 (1 + sizeWidth n) ≤ 1 + sizeWidth n
-          by-short true = omega arith
-          by-short false = omega arith
-
-      by : (b : Bool) → eqb (m .width) 0 ≡ b → headerLength n ≤ m .skip + m .width
-      by true g =
-          let same : U.Number (m .size) ≡ U.Number n = rw g at e in
-          let k : m .size ≡ n = cc in
-          omega (arith, subst (λ (i : ℕ). headerLength i ≤ m .skip) k (leb-true (headerLength (m .size)) (m .skip) (rw g at f)))
-      by false g =
-          let h = and-true (eqb (m .skip) 1) (isWidth (m .width)) (rw g at f) in
-          omega (arith, one-more, behind-least (h .1), eqb-true (m .skip) 1 (h .0))
-
--- ---- Integers
--- a form that lies at `at` and ends at `end`
-pub record Formed (s : List ℕ) (at : ℕ) (z : ℤ) (end : ℕ) : Type 0 where
-  pub bytes : List ℕ
-  pub form : IntegerForm z bytes
-  pub ends : at + length bytes ≡ end
-  pub is : part s at (length bytes) ≡ bytes
-
-module _ (s : List ℕ) (bs : Bytes s) (at : ℕ) where
-  tiny-formed : isTiny (twos 1 (getD s at 0)) ≡ true → at < length s → Formed s at (twos 1 (bigEndian (part s at 1))) (at + 1)
-  tiny-formed t h =
-      let v = part s at 1 in
-      let l : length v ≡ 1 = length-part s at 1 (omega arith) in
-      let e : bytesOf 1 (bitsOf 1 (twos 1 (bigEndian v))) ≡ v = of-width 1 .signed-bytes v l (bytes-part s at 1 bs) in
-      record {
-        bytes = bytesOf 1 (bitsOf 1 (twos 1 (bigEndian v)));
-        form = itself (rw (big-one s at h) t);
-        ends = rw (e, l) refl;
-        is = rw (e, l) refl;
-      }
-
-  wide-formed : (n : ℕ) → isWidth n ≡ true → getD s at 0 ≡ 0xC8 + doublings n → at + 1 + n ≤ length s
-      → Formed s at (twos n (bigEndian (part s (at + 1) n))) (at + 1 + n)
-  wide-formed n w b h =
-      let v = part s (at + 1) n in
-      let l : length v ≡ n = length-part s (at + 1) n h in
-      let c : Bytes v = bytes-part s (at + 1) n bs in
-      let z = twos n (bigEndian v) in
-      let e : bytesOf n (bitsOf n z) ≡ v = of-width n .signed-bytes v l c in
-      let k : bigEndian v < 256 ^ n = subst (λ (j : ℕ). bigEndian v < 256 ^ j) l (big-lt v c) in
-      let m : length (wide 0xC8 n (bitsOf n z)) ≡ suc n = omega (arith, length-wide 0xC8 n (bitsOf n z)) in
-      record {
-        bytes = wide 0xC8 n (bitsOf n z);
-        form = behind n w (twos-fits n (bigEndian v) k);
-        ends = omega arith;
-        is = rw m (part-cons s at n (omega arith) ∙ ap₂ (λ (x : ℕ) (xs : List ℕ). x ∷ xs) b (sym e));
-      }
-
-  integer-formed : (n p : ℕ) → Head s at (K.Leaf L.Integer) n p → p + n ≤ length s → Formed s at (twos n (bigEndian (part s p n))) (p + n)
-  unfolding kindForm leafForm integerForm
-  integer-formed n p h room =
-      let m = h .marker in
-      let tiny = eqb (m .skip) 0 && (eqb (m .size) 1 && isTiny (twos 1 (getD s at 0))) in
-      let wider = eqb (m .skip) 1 && (isWidth (m .size) && eqb (getD s at 0) (0xC8 + doublings (m .size))) in
-      let f = and-true (eqb (m .width) 0) (tiny || wider) (head-form s bs h) in
-      let z : m .width ≡ 0 = eqb-true (m .width) 0 (f .0) in
-      let o : U.Number (m .size) ≡ U.Number n = rw (f .0) at (h .size) in
-      let k : m .size ≡ n = cc in
-      ⊎-elim (λ t. in-itself k z (and-true (eqb (m .skip) 0) _ t)) (λ t. in-bytes k z (and-true (eqb (m .skip) 1) _ t)) (or-true tiny wider (f .1))
-    where
-      in-itself : h .marker .size ≡ n → h .marker .width ≡ 0
-          → (eqb (h .marker .skip) 0 ≡ true) × ((eqb (h .marker .size) 1 && isTiny (twos 1 (getD s at 0))) ≡ true)
-          → Formed s at (twos n (bigEndian (part s p n))) (p + n)
-      in-itself k z (t, u) =
-          let v = and-true (eqb (h .marker .size) 1) (isTiny (twos 1 (getD s at 0))) u in
-          let one : n ≡ 1 = sym k ∙ eqb-true (h .marker .size) 1 (v .0) in
-          let place : p ≡ at = omega (arith, h .start, eqb-true (h .marker .skip) 0 t, z) in
-          rw (one, place) (tiny-formed (v .1) (h .inside))
-
-      in-bytes : h .marker .size ≡ n → h .marker .width ≡ 0
-          → (eqb (h .marker .skip) 1 ≡ true) × ((isWidth (h .marker .size) && eqb (getD s at 0) (0xC8 + doublings (h .marker .size))) ≡ true)
-          → Formed s at (twos n (bigEndian (part s p n))) (p + n)
-      in-bytes k z (t, u) =
-          let v = and-true (isWidth (h .marker .size)) (eqb (getD s at 0) (0xC8 + doublings (h .marker .size))) u in
-          let place : p ≡ at + 1 = omega (arith, h .start, eqb-true (h .marker .skip) 1 t, z) in
-          rw place (wide-formed n (rw k at (v .0)) (eqb-true (getD s at 0) (0xC8 + doublings n) (rw k at (v .1))) (omega arith))
-
-pub form-least : {z : ℤ} {l : List ℕ} → IntegerForm z l → length (packInteger z) ≤ length l
-form-least {z} (itself t) = omega (arith, length-tiny z t, length-bytesOf 1 (bitsOf 1 z))
-form-least {z} (behind w v f) = by (isTiny z) refl
-  where
-    by : (b : Bool) → isTiny z ≡ b → length (packInteger z) ≤ length (wide 0xC8 w (bitsOf w z))
-    by true t = omega (arith, length-tiny z t)
-    by false t = omega (arith, length-integer z t, narrowest-least (λ w. fitsIn w z) w v f, length-wide 0xC8 w (bitsOf w z))
-
--- ---- every extent has a head
-by-test : {A : Type 0} (P : A → Type 0) (b : Bool) (x y : A) → (b ≡ true → P x) → (b ≡ false → P y) → P (cond b x y)
-by-test P true x y g h = g refl
-by-test P false x y g h = h refl
-
-by-size : (P : Extent → Type 0) (at : ℕ) (u : Unsigned) (f : ℕ → Extent) → ((n : ℕ) → u ≡ U.Number n → P (f n)) → P (E.Refused ValueTruncated at)
-    → P (onSize at u f)
-by-size P at (U.Number n) f g h = g n refl
-by-size P at U.OutOfBounds f g h = h
-by-size P at U.InvalidWidth f g h = h
-
-abbrev Headed : List ℕ → ℕ → Extent → Type 0
-Headed s at (E.Leaf k p n) = Head s at (K.Leaf k) n p
-Headed s at (E.Container k p n) = Head s at (K.Container k) n p
-Headed s at (E.Refused why place) = Unit {0}
-
--- a key's head is a String's
-abbrev KeyHeaded : List ℕ → ℕ → Extent → Type 0
-KeyHeaded s at (E.Leaf k p n) = Head s at (K.Leaf L.String) n p
-KeyHeaded s at (E.Container k p n) = Unit {0}
-KeyHeaded s at (E.Refused why place) = Unit {0}
-
-module _ (s : List ℕ) (at : ℕ) (h : at < length s) (m : Marker) (e : markerOf (getD s at 0) ≡ m) where
-  head-of : {k : Kind} (n : ℕ) → m .kind ≡ k → sizeAt s at m ≡ U.Number n → Head s at k n (at + m .skip + m .width)
-  head-of n k u = record { marker = m; inside = h; is = e; kind = k; size = u; start = refl }
-
-  leaf-headed : (k : Leaf) (P : Extent → Type 0) → ((n : ℕ) → sizeAt s at m ≡ U.Number n → P (E.Leaf k (at + m .skip + m .width) n))
-      → ((why : Refusal) (place : ℕ) → P (E.Refused why place)) → P (leafExtent s at k m)
-  unfolding leafExtent
-  leaf-headed k P there refused =
-      by-size P at (sizeAt s at m) _
-      (λ n u. by-test P (reaches s (at + m .skip + m .width) n) _ _ (λ r. there n u) (λ r. refused ValueTruncated at))
-      (refused ValueTruncated at)
-
-  container-headed : (k : Container) → m .kind ≡ K.Container k → Headed s at (containerExtent s at k m)
-  unfolding containerExtent
-  container-headed k f = by-size (Headed s at) at (sizeAt s at m) _ (λ n u. head-of n f u) tt
-
-module _ (s : List ℕ) (at : ℕ) where
-  headed : (depth : ℕ) → Headed s at (extentAt s depth at)
-  unfolding extentAt
-  headed depth =
-      by-test (Headed s at) (ltb at (length s)) _ _ (λ h. by (markerOf (getD s at 0) .kind) refl (ltb-true at (length s) h)) (λ h. tt)
-    where
-      by : (k : Kind) → markerOf (getD s at 0) .kind ≡ k → at < length s → Headed s at (kindExtent s depth at (markerOf (getD s at 0)) k)
-      by K.Reserved f h = tt
-      by (K.Leaf k) f h =
-          leaf-headed s at h (markerOf (getD s at 0)) refl k (Headed s at) (λ n u. head-of s at h (markerOf (getD s at 0)) refl n f u) (λ why place. tt)
-      by (K.Container k) f h =
-          by-test (Headed s at) (eqb depth 0) _ _ (λ d. tt) (λ d. container-headed s at h (markerOf (getD s at 0)) refl k f)
-
-  key-headed : KeyHeaded s at (keyExtentAt s at)
-  unfolding keyExtentAt
-  key-headed =
-      by-test (KeyHeaded s at) (ltb at (length s)) _ _ (λ h. by (markerOf (getD s at 0) .kind) refl (ltb-true at (length s) h)) (λ h. tt)
-    where
-      is-string : (k : Leaf) → isString k ≡ true → k ≡ L.String
-      is-string L.String e = refl
-      is-string L.Null e = absurd (false≢true e)
-      is-string L.Boolean e = absurd (false≢true e)
-      is-string L.Integer e = absurd (false≢true e)
-      is-string L.Float e = absurd (false≢true e)
-      is-string L.Bytes e = absurd (false≢true e)
-
-      by : (k : Kind) → markerOf (getD s at 0) .kind ≡ k → at < length s → KeyHeaded s at (keyKindExtent s at (markerOf (getD s at 0)) k)
-      by K.Reserved f h = tt
-      by (K.Leaf k) f h =
-          by-test (KeyHeaded s at) (isString k) _ _
-          (λ t. leaf-headed s at h (markerOf (getD s at 0)) refl k (KeyHeaded s at) (λ n u. head-of s at h (markerOf (getD s at 0)) refl n (f ∙ ap K.Leaf (is-string k t)) u) (λ why place. tt))
-          (λ t. tt)
-      by (K.Container k) f h = tt
-
--- ---- leaves and headers
-module _ (s : List ℕ) (bs : Bytes s) (at n p : ℕ) where
-  sized-least : {k : Kind} (h : Head s at k n p) → sizeForm (h .marker) ≡ true → at + headerLength n ≤ p
-  sized-least h f = omega (arith, header-least s bs at n (h .marker) (h .size) f, h .start)
-
-  string-least : Head s at (K.Leaf L.String) n p → p + n ≤ length s → at + length (packString (part s p n)) ≤ p + n
-  unfolding kindForm leafForm
-  string-least h room =
-      let l : length (part s p n) ≡ n = length-part s p n room in
-      let e : length (packString (part s p n)) ≡ headerLength n + n =
-      length-append (stringHeader (length (part s p n))) (part s p n) ∙ rw (l, length-header 0x80 0xD0 n) refl in
-      omega (arith, sized-least h (head-form s bs h))
-
-  bytes-least : Head s at (K.Leaf L.Bytes) n p → p + n ≤ length s → at + length (packBytes (part s p n)) ≤ p + n
-  unfolding kindForm leafForm
-  bytes-least h room =
-      let l : length (part s p n) ≡ n = length-part s p n room in
-      let m = h .marker in
-      let f = and-true (eqb (m .skip) 1) (isWidth (m .width)) (head-form s bs h) in
-      let e : length (packBytes (part s p n)) ≡ 1 + sizeWidth n + n =
-      length-append (wide 0xCC (sizeWidth (length (part s p n))) (length (part s p n))) (part s p n) ∙ rw (l, length-bytesOf (sizeWidth n) n) (omega arith) in
-      omega (arith, behind-least s bs at n m (h .size) (f .1), eqb-true (m .skip) 1 (f .0), h .start)
-
-  leaf-least : (k : Leaf) → Head s at (K.Leaf k) n p → LeafInside s at k p n → at + length (pack (leafValue s k p n)) ≤ p + n
-  unfolding leafValue pack kindForm leafForm
-  leaf-least L.Null h i = omega (arith, i .past)
-  leaf-least L.Boolean h i = omega (arith, i .past, length-boolean (eqb (getD s p 0) 0xC3))
-  leaf-least L.Integer h i =
-      let f = integer-formed s bs at n p h (i .inside) in
-      omega (arith, form-least (f .form), f .ends)
-  leaf-least L.Float h i =
-      omega (arith, length-bytesOf 8 (bigEndian (part s p n)), eqb-true n 8 (i .sized), eqb-true (h .marker .skip) 1 (head-form s bs h), h .start)
-  leaf-least L.Bytes h i = bytes-least h (i .inside)
-  leaf-least L.String h i = string-least h (i .inside)
 
 -- ---- what is read, if anything is
 abbrev Ends : {A : Type 0} → Parse A → (A → ℕ → Type 0) → Type 0
@@ -377,18 +107,18 @@ module _ (s : List ℕ) (bs : Bytes s) where
         ends-mapped (LeastEntries (suc n) at) (entry at (key .start) (key .content) p v) (entries s f (key .content ∷ seen) n q) (entries-least (key .content ∷ seen) n q)
         (λ es end (c, k). (ap suc c, omega (arith, length-append (packString (key .content)) (pack v ++ packEntries es), length-append (pack v) (packEntries es))))))
 
-    container-least : (k : Container) (at p n : ℕ) → Head s at (K.Container k) n p → Ends (containerAt s f at k p n) (Least at)
-    unfolding pack kindForm containerForm
+    container-least : (k : Container) (at p n : ℕ) → Header s at (K.Container k) n p → Ends (containerAt s f at k p n) (Least at)
+    unfolding pack
     container-least C.List at p n h =
         ends-mapped (Least at) list (items f n p) (items-least n p) (λ vs end (c, k).
-        omega (arith, sized-least s bs at n p h (head-form s bs h), length-append (listHeader (count vs)) (packItems vs), length-header 0x90 0xD4 (count vs) ∙ ap headerLength c))
+        omega (arith, list-least s bs at n p h, length-append (listHeader (count vs)) (packItems vs), length-header 0x90 0xD4 (count vs) ∙ ap headerLength c))
     container-least C.Dictionary at p n h =
         ends-mapped (Least at) dictionary (entries s f [] n p) (entries-least [] n p) (λ es end (c, k).
-        omega (arith, sized-least s bs at n p h (head-form s bs h), length-append (dictionaryHeader (countEntries es)) (packEntries es), length-header 0xA0 0xD8 (countEntries es) ∙ ap headerLength c))
+        omega (arith, dictionary-least s bs at n p h, length-append (dictionaryHeader (countEntries es)) (packEntries es), length-header 0xA0 0xD8 (countEntries es) ∙ ap headerLength c))
     container-least C.Structure at p n h =
         by-test (λ y. Ends y (Least at)) (ltb p (length s)) _ _
         (λ t. ends-mapped (Least at) (structure (getD s p 0)) (items f n (p + 1)) (items-least n (p + 1)) (λ vs end (c, k).
-        omega (arith, eqb-true (h .marker .skip) 1 (head-form s bs h), h .start)))
+        omega (arith, structure-least s bs at n p h)))
         (λ t. tt)
 
     value-of-least : (depth at : ℕ) → Ends (valueOf s f at (extentAt s depth at)) (Least at)
@@ -407,7 +137,7 @@ module _ (s : List ℕ) (bs : Bytes s) where
   value-least (suc depth) at = value-of-least (λ p. valueAt s depth p) (λ p. value-least depth p) (suc depth) at
 
   -- an Integer that was read has one of its forms there
-  leaf-formed : (at : ℕ) (k : Leaf) (p n : ℕ) → Head s at (K.Leaf k) n p → LeafInside s at k p n → FormedAt s at (leafValue s k p n) (p + n)
+  leaf-formed : (at : ℕ) (k : Leaf) (p n : ℕ) → Header s at (K.Leaf k) n p → LeafInside s at k p n → FormedAt s at (leafValue s k p n) (p + n)
   unfolding leafValue
   leaf-formed at L.Null p n h i = tt
   leaf-formed at L.Boolean p n h i = tt

@@ -12,7 +12,7 @@ use Rattle.utf8.specs.Utf8.{utf8}
 use Rattle.refusal.specs.Answer.{result}
 use Rattle.packstream.specs.Value.{Value, null, boolean, integer, float, bytes, string, list, dictionary, structure, Items, no-items, item, count, Entries, no-entries, entry, countEntries, forget}
 use Rattle.packstream.specs.Decode.{parsed, repeats, valueAt, mostOpen, mostBytes, decode}
-use Rattle.packstream.specs.Packing.{sizeWidth, wide, stringHeader, packString, listHeader, dictionaryHeader, structureHeader, pack, packItems, packEntries}
+use Rattle.packstream.specs.Packing.{sizeWidth, wide, stringHeader, packString, listHeader, dictionaryHeader, structureHeader, pack}
 
 -- ---- values that have a form
 

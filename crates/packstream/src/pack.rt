@@ -5,7 +5,7 @@ ghost use Prim.Native.Nat.{_+_, _≤_, _<_};
 ghost use lib.ListN.{length};
 ghost use lib.Seq.{sets};
 ghost use Rattle.refusal.specs.Answer.{result, left};
-ghost use Rattle.packstream.specs.Packing.{doublings, isTiny, integerWidth, packInteger, sizeWidth, sizeHeader, headerLength, packBoolean, packString, stringForm, dictionaryForm, structureForm, fitted, leaves, telling, told};
+ghost use Rattle.packstream.specs.Packing.{doublings, isTiny, integerWidth, packInteger, sizeWidth, sizeHeader, headerLength, packBoolean, stringForm, dictionaryForm, structureForm, fitted, leaves, telling, told};
 use refusal::Refusal;
 
 // What a packer answers: the offset past what it packed, or why it packed nothing.

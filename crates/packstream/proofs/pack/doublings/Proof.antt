@@ -1,6 +1,5 @@
 -- `packstream::pack::doublings` meets its contract. Assumes nothing.
-use mathlib.Core.Path.{sym}
-use borrow.Author.Tests.{eq-eqb, ne-eqb}
+use borrow.Author.Tests.{ne-eqb}
 use Rattle.packstream.specs.Packing.{doublings}
 use Rattle.packstream.proofs.pack.doublings.Statement.{statement}
 use Rattle.packstream.proofs.pack.doublings.Tie as tie

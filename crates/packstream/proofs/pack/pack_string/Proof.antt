@@ -1,6 +1,5 @@
 -- `packstream::pack::pack_string` meets its contract. Each test is one of `stringForm`'s or that for room, in their order. Assumes nothing.
-use mathlib.Core.Path.{_≡_, refl}
-use mathlib.Core.Bool.{true}
+use mathlib.Core.Path.{_≡_}
 use Prim.Native.Nat.{_+_, _≤_}
 use native.Mathlib.Omega.{arith}
 use borrow.Author.Needs.{needs}
