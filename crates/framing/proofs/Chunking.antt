@@ -13,19 +13,12 @@ use Rattle.slices.specs.Parts.{part, copied, front}
 use Rattle.slices.proofs.Parts.{length-part, fits-yes}
 use Rattle.slices.proofs.Pieces.{Put, put-none, put-fits, put-next, put-done}
 use Rattle.numbers.specs.BigEndian.{bytesOf}
-use Rattle.refusal.specs.Answer.{Answer, result, refused, left}
+use Rattle.numbers.proofs.BigEndian.{bytesOf-two}
+use Rattle.refusal.specs.Answer.{Answer, result, refused, counted, left}
 use Rattle.framing.specs.Feed.{most}
-use Rattle.framing.specs.Chunking.{chunkOf, end, remainder, wholes, chunked, writing, telling}
+use Rattle.framing.specs.Chunking.{chunkOf, end, remainder, wholes, chunked, writing}
 
 -- ---- one chunk
--- a size below 65,536 in two bytes
-pub size-bytes : (n : ℕ) → n < 65536 → bytesOf 2 n ≡ n / 256 ∷ n % 256 ∷ []
-unfolding bytesOf
-size-bytes n h =
-    let a : n / 256 % 256 ≡ n / 256 = omega arith in
-    let b : n / 1 % 256 ≡ n % 256 = omega arith in
-    rw (a, b) refl
-
 pub length-chunk : (v : List ℕ) → length (chunkOf v) ≡ length v + 2
 unfolding bytesOf
 length-chunk v = omega arith
@@ -40,7 +33,7 @@ pub put-chunk : (s d : List ℕ) (start size to : ℕ) → size < 65536 → star
 put-chunk s d start size to h k room l =
     let e : to + 2 ≡ suc (suc to) = omega arith in
     let f : to + 2 + size ≤ length (set (set d to (size / 256)) (to + 1) (size % 256)) = omega (arith, l, room) in
-    rw (length-part s start size k, size-bytes size h)
+    rw (length-part s start size k, bytesOf-two size h)
     (rw (fits-yes s start size (set (set d to (size / 256)) (to + 1) (size % 256)) (to + 2) k f) (rw (e, add-one to) refl))
 
 -- ---- what comes next
@@ -199,5 +192,5 @@ module _ (c room : ℕ) (m : List ℕ) where
           written h = simp (ne-eqb (length m) 0 some, ne-eqb c 0 pos, le-ltb 65535 c narrow, le-ltb most (length m) short, le-ltb room (length (chunked c m)) h)
 
 -- what the writer answers and leaves, from the case of `writing` that holds
-pub answered : (x y : Answer (List ℕ)) (t : Answer ℕ) (d e : List ℕ) → x ≡ y → t ≡ telling y → e ≡ left front y d → (t ≡ telling x) × (e ≡ left front x d)
-answered x y t d e p q r = (q ∙ sym (ap telling p), r ∙ sym (ap (λ (z : Answer (List ℕ)). left front z d) p))
+pub answered : (x y : Answer (List ℕ)) (t : Answer ℕ) (d e : List ℕ) → x ≡ y → t ≡ counted y → e ≡ left front y d → (t ≡ counted x) × (e ≡ left front x d)
+answered x y t d e p q r = (q ∙ sym (ap counted p), r ∙ sym (ap (λ (z : Answer (List ℕ)). left front z d) p))

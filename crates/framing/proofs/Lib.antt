@@ -4,3 +4,5 @@ pub mod Copying
 pub mod Telling
 pub mod Chunking
 pub mod RoundTrip
+pub mod Places
+pub mod Fitting

@@ -1,7 +1,7 @@
 -- Reading undoes chunking. Assumes nothing.
 use mathlib.Core.Path.{_≡_, refl, sym, ap, _∙_}
 use mathlib.Core.List.{List, [], _∷_, _++_, append-assoc, append-nil}
-use mathlib.Core.Bool.{Bool, true, false, false≢true}
+use mathlib.Core.Bool.{Bool, true, false, false≢true, and-eq-true-iff}
 use Prim.Native.Nat.{ℕ, zero, suc, _+_, _*_, _/_, _%_, _<_, _≤_}
 use native.Mathlib.Nat.{zero-add, suc-mul, div-add-mod'}
 use native.Mathlib.Omega.{arith}
@@ -9,7 +9,6 @@ use lib.Dec.{leb}
 use lib.ListN.{length, take, drop, length-append, length-drop, take-append-drop}
 use lib.Seq.{length-take-le, take-at, drop-at}
 use borrow.Author.Tests.{ne-eqb, le-ltb, leb-true}
-use Rattle.slices.proofs.Tests.{and-true}
 use Rattle.numbers.specs.BigEndian.{bigEndian, bytesOf}
 use Rattle.numbers.proofs.BigEndian.{read-back}
 use Rattle.refusal.specs.Answer.{Answer, result}
@@ -86,10 +85,10 @@ module _ (alive : Bool) (room : ℕ) where
 
   one : (x : Sent) (after : List ℕ) → sendable alive room x ≡ true → frameOf alive room (wire x ++ after) ≡ result (arrives x)
   one (chunks c m) after e =
-      let a = and-true (leb 1 c) _ e in
-      let b = and-true (leb c 65535) _ (a .1) in
-      let d = and-true (leb 1 (length m)) _ (b .1) in
-      let f = and-true (leb (length m) most) _ (d .1) in
+      let a = and-eq-true-iff (leb 1 c) _ .0 e in
+      let b = and-eq-true-iff (leb c 65535) _ .0 (a .1) in
+      let d = and-eq-true-iff (leb 1 (length m)) _ .0 (b .1) in
+      let f = and-eq-true-iff (leb (length m) most) _ .0 (d .1) in
       chunked-read c m after (leb-true 1 c (a .0)) (leb-true 1 (length m) (d .0)) (leb-true (length m) most (f .0)) (leb-true (length m) room (f .1))
   one empty after e = empty-read room alive e after
 
@@ -102,7 +101,7 @@ module _ (alive : Bool) (room : ℕ) where
   unfolding framesOf wireAll
   many [] after e = refl
   many (x ∷ xs) after e =
-      let both = and-true (sendable alive room x) (allSendable alive room xs) e in
+      let both = and-eq-true-iff (sendable alive room x) (allSendable alive room xs) .0 e in
       let r : frameOf alive room (wire x ++ (wireAll xs ++ after)) ≡ result (arrives x) = one x (wireAll xs ++ after) (both .0) in
       rw (append-assoc (wire x) (wireAll xs) after, r, past x (wireAll xs ++ after), many xs after (both .1)) refl
 

@@ -2,10 +2,10 @@
 use mathlib.Core.Path.{_≡_, refl, ap, _∙_}
 use mathlib.Core.List.{List, [], _∷_, _++_}
 use mathlib.Core.Bool.{Bool}
-use Prim.Native.Nat.{ℕ, suc, _+_, _-_, _*_, _<_, _≤_}
+use Prim.Native.Nat.{ℕ, _+_, _-_, _*_, _<_, _≤_}
 use native.Mathlib.Omega.{arith}
-use lib.ListN.{length, getD, drop, length-drop, length-append}
-use lib.Seq.{drop-cons, drop-drop}
+use lib.ListN.{length, drop, length-drop, length-append}
+use lib.Seq.{drop-drop}
 use borrow.Author.Tests.{eq-eqb, ne-eqb, lt-ltb, le-ltb}
 use Rattle.slices.specs.Parts.{part}
 use Rattle.slices.proofs.Parts.{length-part}
@@ -23,13 +23,6 @@ pub record Came (alive : Bool) (room : ℕ) (s : List ℕ) (at sum : ℕ) : Type
 
 unfoldable pub came-none : (alive : Bool) (room : ℕ) (s : List ℕ) → Came alive room s 0 0
 came-none alive room s = record { got = []; count = refl; reads = refl }
-
--- the size that a header names, byte by byte
-pub size-of : (s : List ℕ) (at : ℕ) → at + 2 ≤ length s → 256 * getD s at 0 + getD s (at + 1) 0 ≡ bigEndian (part s at 2)
-unfolding bigEndian
-size-of s at h =
-    let e : at + 1 ≡ suc at = omega arith in
-    rw (e, drop-cons s at 0 (omega arith), drop-cons s (suc at) 0 (omega arith)) (omega arith)
 
 -- a size of zero after some bytes, and after none
 pub some-ended : (alive : Bool) (got : List ℕ) (used : ℕ) → 0 < length got → ended alive got used ≡ result (message got used)

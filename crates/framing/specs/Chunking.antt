@@ -42,11 +42,6 @@ writing c room m =
     (cond (ltb room (length (chunked c m))) (refused 21 0)
     (result (chunked c m))))
 
--- what a caller is told: how many bytes were written
-abbrev pub telling : Answer (List ℕ) → Answer ℕ
-telling (result v) = result (length v)
-telling (refused number place) = refused number place
-
 -- the code's answer in the paper's terms
 abbrev pub told : Written → Answer ℕ
 told (Bytes n) = result n

@@ -25,7 +25,7 @@ fn size_at(input: &[u8], at: usize) -> usize
     requires { ⌜ at + 2 ≤ length (now input) ⌝ }
     ensures { λ r. ⌜ (r ≡ bigEndian (part (now (input .entry)) at 2)) × (r < 65536) ⌝ }
 {
-    256 * (input[at] as usize) + (input[at + 1] as usize)
+    (input[at] as usize) * 256 + (input[at + 1] as usize)
 }
 
 // What stands at the front of `input`, for a buffer of `room` bytes: headers only. Chunks of one size are passed in an inner loop,

@@ -4,8 +4,8 @@ ghost use Prim.Native.Nat.{_+_, _≤_, _<_};
 ghost use lib.ListN.{length};
 ghost use lib.Seq.{sets};
 ghost use Rattle.slices.specs.Parts.{part, front};
-ghost use Rattle.refusal.specs.Answer.{left};
-ghost use Rattle.framing.specs.Chunking.{chunkOf, chunked, end, writing, telling, told};
+ghost use Rattle.refusal.specs.Answer.{counted, left};
+ghost use Rattle.framing.specs.Chunking.{chunkOf, chunked, end, writing, told};
 use refusal::Refusal;
 
 // What the chunk writer answers: how many bytes it wrote, or why it wrote none.
@@ -72,7 +72,7 @@ fn put_chunks(message: &[u8], chunk_size: usize, out: &mut [u8])
 // message is empty or the chunk size is not 1 to 65,535, with 6 where the message has over 16,384 bytes, and with 21 where the whole
 // output is longer than `out`.
 pub fn write_chunks(message: &[u8], chunk_size: usize, out: &mut [u8]) -> Written
-    ensures answer { λ r. ⌜ told r ≡ telling (writing «chunk_size» (length (now (out .entry))) (now (message .entry))) ⌝ }
+    ensures answer { λ r. ⌜ told r ≡ counted (writing «chunk_size» (length (now (out .entry))) (now (message .entry))) ⌝ }
     ensures filled { λ _. ⌜ now (out .exit) ≡ left front (writing «chunk_size» (length (now (out .entry))) (now (message .entry))) (now (out .entry)) ⌝ }
 {
     if message.len() == 0 {

@@ -1,16 +1,19 @@
 -- The preamble byte by byte, and the choice proposal by proposal. Assumes nothing.
 use mathlib.Core.Path.{_≡_, refl}
-use mathlib.Core.Bool.{true, _&&_}
+use mathlib.Core.Bool.{true, cond, _&&_}
 use mathlib.Core.List.{List, [], _∷_}
-use Prim.Native.Nat.{ℕ, suc, _+_, _-_, _*_, _<_, _≤_}
+use mathlib.Core.Option.{Option, none, some}
+use Prim.Native.Nat.{ℕ, zero, suc, _+_, _-_, _*_, _<_, _≤_}
 use native.Mathlib.Omega.{arith}
 use native.Mathlib.Numerals.{add-one}
-use lib.Dec.{eqb}
+use lib.Dec.{ltb, eqb}
 use lib.ListN.{length, getD, take, drop, drop-of-length-le}
 use lib.Seq.{drop-cons, drop-drop}
 use Rattle.slices.specs.Parts.{part}
+use Rattle.refusal.specs.Answer.{Answer, refused, Placed}
+use Rattle.refusal.proofs.Answer.{placed-cond}
 use Rattle.handshake.specs.Version.{proposed}
-use Rattle.handshake.specs.Negotiation.{agrees, orElse, chosen}
+use Rattle.handshake.specs.Negotiation.{preamble, agrees, orElse, chosen, negotiated}
 
 -- a byte of each more
 pub agrees-next : (p s : List ℕ) (i : ℕ) → i < length p → i < length s
@@ -40,3 +43,19 @@ chosen-next s k h =
     let e : 4 - k ≡ suc (4 - (k + 1)) = omega arith in
     let d : 4 + 4 * k + 4 ≡ 4 + 4 * (k + 1) = omega arith in
     rw (e, drop-drop, d) refl
+
+-- ---- every refusal of the handshake is at place 0
+orElse-placed : (p : Option ℕ) (a : Answer ℕ) → Placed a → Placed (orElse p a)
+orElse-placed (some minor) a h = tt
+orElse-placed none a h = h
+
+chosen-placed : (n : ℕ) (s : List ℕ) → Placed (chosen n s)
+unfolding chosen
+chosen-placed zero s = λ e. refl
+chosen-placed (suc n) s = orElse-placed (proposed (take 4 s)) (chosen n (drop 4 s)) (chosen-placed n (drop 4 s))
+
+pub negotiated-placed : (s : List ℕ) → Placed (negotiated s)
+unfolding negotiated
+negotiated-placed s =
+    placed-cond (agrees preamble s) (cond (ltb (length s) 20) (refused 1 0) (chosen 4 (drop 4 s))) (refused 2 0)
+    (placed-cond (ltb (length s) 20) (refused 1 0) (chosen 4 (drop 4 s)) (λ e. refl) (chosen-placed 4 (drop 4 s))) (λ e. refl)

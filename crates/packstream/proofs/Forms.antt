@@ -1,7 +1,7 @@
 -- The forms that are accepted: what every marker takes, and so what sizes, Integers and the other leaves take. Assumes nothing.
 use mathlib.Core.Path.{_≡_, refl, sym, ap₂, _∙_, subst}
 use mathlib.Core.Logic.{_⊎_, inl, inr, ⊎-elim}
-use mathlib.Core.Bool.{Bool, true, false, cond, _&&_, _||_}
+use mathlib.Core.Bool.{Bool, true, false, cond, _&&_, _||_, and-eq-true-iff}
 use mathlib.Core.List.{List, _∷_}
 use Prim.Native.Nat.{ℕ, suc, _+_, _^_, _≤_, _<_}
 use native.Mathlib.Omega.{arith}
@@ -11,7 +11,6 @@ use lib.IntN.{ℤ}
 use lib.ListN.{length, getD, length-append}
 use Rattle.slices.specs.Parts.{part}
 use Rattle.slices.proofs.Parts.{length-part, part-cons}
-use Rattle.slices.proofs.Tests.{and-true}
 use Rattle.slices.proofs.Below.{below}
 use Rattle.numbers.specs.BigEndian.{bigEndian, bytesOf, holds, Bytes}
 use Rattle.numbers.specs.TwosComplement.{twos, bitsOf, fitsIn}
@@ -109,7 +108,7 @@ module _ (s : List ℕ) (bs : Bytes s) (at n : ℕ) (m : Marker) (e : sizeAt s a
           let k : m .size ≡ n = cc in
           omega (arith, subst (λ (i : ℕ). headerLength i ≤ m .skip) k (leb-true (headerLength (m .size)) (m .skip) (rw g at f)))
       by false g =
-          let h = and-true (eqb (m .skip) 1) (isWidth (m .width)) (rw g at f) in
+          let h = and-eq-true-iff (eqb (m .skip) 1) (isWidth (m .width)) .0 (rw g at f) in
           omega (arith, one-more, behind-least (h .1), eqb-true (m .skip) 1 (h .0))
 
 -- ---- Integers
@@ -156,17 +155,17 @@ module _ (s : List ℕ) (bs : Bytes s) (at : ℕ) where
       let m = h .marker in
       let tiny = eqb (m .skip) 0 && (eqb (m .size) 1 && isTiny (twos 1 (getD s at 0))) in
       let wider = eqb (m .skip) 1 && (isWidth (m .size) && eqb (getD s at 0) (0xC8 + doublings (m .size))) in
-      let f = and-true (eqb (m .width) 0) (tiny || wider) (header-form s bs h) in
+      let f = and-eq-true-iff (eqb (m .width) 0) (tiny || wider) .0 (header-form s bs h) in
       let z : m .width ≡ 0 = eqb-true (m .width) 0 (f .0) in
       let o : U.Number (m .size) ≡ U.Number n = rw (f .0) at (h .size) in
       let k : m .size ≡ n = cc in
-      ⊎-elim (λ t. in-itself k z (and-true (eqb (m .skip) 0) _ t)) (λ t. in-bytes k z (and-true (eqb (m .skip) 1) _ t)) (or-true tiny wider (f .1))
+      ⊎-elim (λ t. in-itself k z (and-eq-true-iff (eqb (m .skip) 0) _ .0 t)) (λ t. in-bytes k z (and-eq-true-iff (eqb (m .skip) 1) _ .0 t)) (or-true tiny wider (f .1))
     where
       in-itself : h .marker .size ≡ n → h .marker .width ≡ 0
           → (eqb (h .marker .skip) 0 ≡ true) × ((eqb (h .marker .size) 1 && isTiny (twos 1 (getD s at 0))) ≡ true)
           → Formed s at (twos n (bigEndian (part s p n))) (p + n)
       in-itself k z (t, u) =
-          let v = and-true (eqb (h .marker .size) 1) (isTiny (twos 1 (getD s at 0))) u in
+          let v = and-eq-true-iff (eqb (h .marker .size) 1) (isTiny (twos 1 (getD s at 0))) .0 u in
           let one : n ≡ 1 = sym k ∙ eqb-true (h .marker .size) 1 (v .0) in
           let place : p ≡ at = omega (arith, h .start, eqb-true (h .marker .skip) 0 t, z) in
           rw (one, place) (tiny-formed (v .1) (h .inside))
@@ -175,7 +174,7 @@ module _ (s : List ℕ) (bs : Bytes s) (at : ℕ) where
           → (eqb (h .marker .skip) 1 ≡ true) × ((isWidth (h .marker .size) && eqb (getD s at 0) (0xC8 + doublings (h .marker .size))) ≡ true)
           → Formed s at (twos n (bigEndian (part s p n))) (p + n)
       in-bytes k z (t, u) =
-          let v = and-true (isWidth (h .marker .size)) (eqb (getD s at 0) (0xC8 + doublings (h .marker .size))) u in
+          let v = and-eq-true-iff (isWidth (h .marker .size)) (eqb (getD s at 0) (0xC8 + doublings (h .marker .size))) .0 u in
           let place : p ≡ at + 1 = omega (arith, h .start, eqb-true (h .marker .skip) 1 t, z) in
           rw place (wide-formed n (rw k at (v .0)) (eqb-true (getD s at 0) (0xC8 + doublings n) (rw k at (v .1))) (omega arith))
 
@@ -218,7 +217,7 @@ module _ (s : List ℕ) (bs : Bytes s) (at n p : ℕ) where
   bytes-least h room =
       let l : length (part s p n) ≡ n = length-part s p n room in
       let m = h .marker in
-      let f = and-true (eqb (m .skip) 1) (isWidth (m .width)) (header-form s bs h) in
+      let f = and-eq-true-iff (eqb (m .skip) 1) (isWidth (m .width)) .0 (header-form s bs h) in
       let e : length (packBytes (part s p n)) ≡ 1 + sizeWidth n + n =
       length-append (wide 0xCC (sizeWidth (length (part s p n))) (length (part s p n))) (part s p n) ∙ rw (l, length-bytesOf (sizeWidth n) n) (omega arith) in
       omega (arith, behind-least s bs at n m (h .size) (f .1), eqb-true (m .skip) 1 (f .0), h .start)

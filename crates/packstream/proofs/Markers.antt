@@ -1,7 +1,7 @@
 -- Laws of the markers: the table by ranges, and the code's way by bits. Assumes nothing.
 use mathlib.Core.Path.{_≡_, refl, sym, ap, _∙_}
 use mathlib.Core.Logic.{⊎-elim}
-use mathlib.Core.Bool.{Bool, true, false, not, cond, _&&_, and-false}
+use mathlib.Core.Bool.{Bool, true, false, not, cond, _&&_, and-false, and-eq-true-iff}
 use mathlib.Core.List.{List, [], _∷_}
 use Prim.Native.Nat.{ℕ, zero, suc, _+_, _-_, _*_, _/_, _%_, _^_, _≤_, _<_}
 use native.Mathlib.Nat.{le-of-suc-le-suc, not-suc-le-zero, eq-or-lt-of-le}
@@ -10,7 +10,7 @@ use lib.Bits.{bitAnd, and-mask}
 use lib.Dec.{ltb, leb, eqb}
 use borrow.Author.Tests.{ltb-true, leb-true, eqb-true, lt-leb}
 use Rattle.slices.proofs.Below.{below}
-use Rattle.slices.proofs.Tests.{and-true, lt-or-ge}
+use Rattle.slices.proofs.Tests.{lt-or-ge}
 use Rattle.packstream.specs.Marker.{reserved, itself, small, sized, Row, table, lookup, markerOf, hasSize}
 use Rattle.packstream.specs.declared.marker.Leaf.{Leaf}
 use Rattle.packstream.specs.declared.marker.Leaf.the-variants as L
@@ -113,7 +113,7 @@ past-rows : (n : ℕ) (rs : List Row) → endsBelow n rs ≡ true → (m : ℕ) 
 unfolding endsBelow lookup
 past-rows n [] e m h = refl
 past-rows n (r ∷ rs) e m h =
-    let both = and-true (ltb (r .to) n) (endsBelow n rs) e in
+    let both = and-eq-true-iff (ltb (r .to) n) (endsBelow n rs) .0 e in
     let l : r .to < n = ltb-true (r .to) n (both .0) in
     rw (lt-leb m (r .to) (omega arith), and-false (leb (r .from) m)) (past-rows n rs (both .1) m h)
 
@@ -128,13 +128,13 @@ sound-marker b =
 pub skip-one : (b : ℕ) → markerOf b .skip ≤ 1
 unfolding sound
 skip-one b =
-    leb-true (markerOf b .skip) 1 (and-true (leb (markerOf b .skip) 1) (soundKind (markerOf b .kind) (markerOf b)) (sound-marker b) .0)
+    leb-true (markerOf b .skip) 1 (and-eq-true-iff (leb (markerOf b .skip) 1) (soundKind (markerOf b .kind) (markerOf b)) .0 (sound-marker b) .0)
 
 sound-as : (b : ℕ) (k : Kind) → markerOf b .kind ≡ k → soundKind k (markerOf b) ≡ true
 unfolding sound
 sound-as b k e =
     ap (λ (j : Kind). soundKind j (markerOf b)) (sym e)
-    ∙ and-true (leb (markerOf b .skip) 1) (soundKind (markerOf b .kind) (markerOf b)) (sound-marker b) .1
+    ∙ and-eq-true-iff (leb (markerOf b .skip) 1) (soundKind (markerOf b .kind) (markerOf b)) .0 (sound-marker b) .1
 
 -- a leaf's size is one that its kind has, and something is read
 pub record SoundLeaf (k : Leaf) (m : Marker) : Type 0 where
@@ -146,7 +146,7 @@ unfolding soundKind
 sound-leaf b k e =
     let m = markerOf b in
     let both =
-    and-true (cond (eqb (m .width) 0) (hasSize k (m .size)) (not (tellsSize k))) (leb 1 (m .skip + (m .width + m .size)))
+    and-eq-true-iff (cond (eqb (m .width) 0) (hasSize k (m .size)) (not (tellsSize k))) (leb 1 (m .skip + (m .width + m .size))) .0
     (sound-as b (K.Leaf k) e) in
     record { sized = both .0; reads = leb-true 1 (m .skip + (m .width + m .size)) (both .1) }
 
@@ -160,6 +160,6 @@ pub sound-container : (b : ℕ) (k : Container) → markerOf b .kind ≡ K.Conta
 unfolding soundKind
 sound-container b k e =
     let m = markerOf b in
-    let both = and-true (eqb (m .skip) 1) (leb (m .width) 4 && leb (m .size) 15) (sound-as b (K.Container k) e) in
-    let more = and-true (leb (m .width) 4) (leb (m .size) 15) (both .1) in
+    let both = and-eq-true-iff (eqb (m .skip) 1) (leb (m .width) 4 && leb (m .size) 15) .0 (sound-as b (K.Container k) e) in
+    let more = and-eq-true-iff (leb (m .width) 4) (leb (m .size) 15) .0 (both .1) in
     record { skips = eqb-true (m .skip) 1 (both .0); wide = leb-true (m .width) 4 (more .0); small = leb-true (m .size) 15 (more .1) }

@@ -1,6 +1,6 @@
 -- Laws of the packers: widths, what stands behind a marker, and which answer is given. Assumes nothing.
 use mathlib.Core.Path.{_≡_, refl, sym, ap, _∙_}
-use mathlib.Core.Bool.{Bool, true, false, false≢true, not, cond}
+use mathlib.Core.Bool.{Bool, true, false, false≢true, not, cond, and-eq-true-iff}
 use mathlib.Core.List.{List, [], _∷_}
 use Prim.Native.Nat.{ℕ, _+_, _^_, _≤_, _<_}
 use native.Mathlib.Numerals.{add-one}
@@ -15,7 +15,6 @@ use mir.Syntax.{w64}
 use mir.Val.{SFits}
 use Rattle.slices.specs.Parts.{reaches, fits, copied}
 use Rattle.slices.proofs.Parts.{reaches-yes, sets-append, fits-yes as both-reach}
-use Rattle.slices.proofs.Tests.{and-true}
 use Rattle.numbers.specs.BigEndian.{bytesOf, holds}
 use Rattle.numbers.specs.TwosComplement.{bitsOf, fitsIn}
 use Rattle.numbers.specs.Access.{isWidth, storing, stored}
@@ -127,7 +126,7 @@ module _ (z : ℤ) where
     where
       by : (z : ℤ) → isTiny z ≡ true → fitsIn 1 z ≡ true
       by (pos n) e = fits-yes 1 (pos n) (omega (arith, leb-true n 127 e))
-      by (negsuc n) e = fits-yes 1 (negsuc n) (omega (arith, leb-true n 15 (and-true (leb n 15) true e .0)))
+      by (negsuc n) e = fits-yes 1 (negsuc n) (omega (arith, leb-true n 15 (and-eq-true-iff (leb n 15) true .0 e .0)))
 
 -- eight bytes hold every i64
 pub fits-i64 : (z : ℤ) → SFits w64 z → fitsIn 8 z ≡ true

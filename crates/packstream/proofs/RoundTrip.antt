@@ -1,7 +1,7 @@
 -- What is packed reads back: leaves, headers with what they hold, and so every value. Assumes nothing.
 use mathlib.Core.Path.{_≡_, refl, sym, ap, _∙_, subst}
 use mathlib.Core.Logic.{⊎-elim}
-use mathlib.Core.Bool.{Bool, true, false, false≢true, not, _&&_}
+use mathlib.Core.Bool.{Bool, true, false, false≢true, not, _&&_, and-eq-true-iff}
 use mathlib.Core.List.{List, [], _∷_, _++_, append-assoc}
 use Prim.Native.Nat.{ℕ, zero, suc, _+_, _-_, _^_, _≤_, _<_}
 use native.Mathlib.Omega.{arith}
@@ -11,7 +11,7 @@ use lib.IntN.{ℤ, pos, negsuc}
 use lib.ListN.{length, take, drop, length-append}
 use lib.Seq.{sets, sets-eq, length-take-le}
 use Rattle.slices.specs.Parts.{part}
-use Rattle.slices.proofs.Tests.{and-true, lt-or-ge}
+use Rattle.slices.proofs.Tests.{lt-or-ge}
 use Rattle.numbers.specs.BigEndian.{bytesOf, holds}
 use Rattle.numbers.specs.TwosComplement.{bitsOf, fitsIn}
 use Rattle.numbers.specs.Access.{isWidth}
@@ -125,7 +125,7 @@ tiny-marker : (z : ℤ) → isTiny z ≡ true → markerOf (bitsOf 1 z) ≡ itse
 unfolding markerOf lookup tabulate bitsOf
 tiny-marker (pos n) e = agree markerOf (λ _. itself L.Integer 0) 128 refl n (omega (arith, leb-true n 127 e))
 tiny-marker (negsuc n) e =
-    agree (λ k. markerOf (256 - suc k)) (λ _. itself L.Integer 0) 16 refl n (omega (arith, leb-true n 15 (and-true (leb n 15) true e .0)))
+    agree (λ k. markerOf (256 - suc k)) (λ _. itself L.Integer 0) 16 refl n (omega (arith, leb-true n 15 (and-eq-true-iff (leb n 15) true .0 e .0)))
 
 wide-marker : (w : ℕ) → isWidth w ≡ true → markerOf (0xC8 + doublings w) ≡ fixed L.Integer w 0
 unfolding markerOf lookup doublings
@@ -181,7 +181,7 @@ module _ {s : List ℕ} {at : ℕ} {after : List ℕ} (v : List ℕ) where
   read-string depth t h =
       let header = stringHeader (length v) in
       let w = here-back header v h in
-      let b = and-true (holds 4 (length v)) (utf8 v) t in
+      let b = and-eq-true-iff (holds 4 (length v)) (utf8 v) .0 t in
       leaf-value L.String depth (header-sized (length v) (b .0) string-rows (here-front header v h)) (here-room w)
       ∙ rw (here-part w, b .1, past at header v) refl
 
@@ -192,7 +192,7 @@ module _ {s : List ℕ} {at : ℕ} {after : List ℕ} (v : List ℕ) where
   read-key seen t r h =
       let header = stringHeader (length v) in
       let w = here-back header v h in
-      let b = and-true (holds 4 (length v)) (utf8 v) t in
+      let b = and-eq-true-iff (holds 4 (length v)) (utf8 v) .0 t in
       rw (key-extent (header-sized (length v) (b .0) string-rows (here-front header v h)) (here-room w)) (rw (here-part w, b .1, r, past at header v) refl)
 
 -- ---- headers with what they hold
@@ -234,16 +234,16 @@ mutual
   read-value (string start v) depth p h = read-string v depth p h
   read-value (list vs) zero p h = absurd (false≢true p)
   read-value (list vs) (suc depth) p h =
-      let b = and-true (holds 4 (count vs)) (packableItems depth vs) p in
+      let b = and-eq-true-iff (holds 4 (count vs)) (packableItems depth vs) .0 p in
       read-list depth (count vs) (packItems vs) (b .0) h (read-items vs depth (b .1) (here-back (listHeader (count vs)) (packItems vs) h))
   read-value (dictionary es) zero p h = absurd (false≢true p)
   read-value (dictionary es) (suc depth) p h =
-      let b = and-true (holds 4 (countEntries es)) (packableEntries depth [] es) p in
+      let b = and-eq-true-iff (holds 4 (countEntries es)) (packableEntries depth [] es) .0 p in
       read-dictionary depth (countEntries es) (packEntries es) (b .0) h
       (read-entries es depth [] (b .1) (here-back (dictionaryHeader (countEntries es)) (packEntries es) h))
   read-value (structure tag vs) zero p h = absurd (false≢true p)
   read-value (structure tag vs) (suc depth) p h =
-      let b = and-true (ltb (count vs) 16) (packableItems depth vs) p in
+      let b = and-eq-true-iff (ltb (count vs) 16) (packableItems depth vs) .0 p in
       read-structure depth (count vs) (packItems vs) tag (ltb-true (count vs) 16 (b .0)) h
       (read-items vs depth (b .1) (here-back (structureHeader tag (count vs)) (packItems vs) h))
 
@@ -251,7 +251,7 @@ mutual
       → items (λ p. valueAt s depth p) (count vs) at ≡ parsed (locatedItems at vs) (at + length (packItems vs))
   read-items no-items {at = at} depth p h = ap (λ (e : ℕ). parsed no-items e) (omega arith)
   read-items (item o v vs) {at = at} depth p h =
-      let b = and-true (packable depth v) (packableItems depth vs) p in
+      let b = and-eq-true-iff (packable depth v) (packableItems depth vs) .0 p in
       rw (read-value v depth (b .0) (here-front (pack v) (packItems vs) h))
       (rw (read-items vs depth (b .1) (here-back (pack v) (packItems vs) h), past at (pack v) (packItems vs)) refl)
 
@@ -260,9 +260,9 @@ mutual
       → entries s (λ p. valueAt s depth p) seen (countEntries es) at ≡ parsed (locatedEntries at es) (at + length (packEntries es))
   read-entries no-entries {at = at} depth seen p h = ap (λ (e : ℕ). parsed no-entries e) (omega arith)
   read-entries (entry o start key place v es) {at = at} depth seen p h =
-      let b = and-true (validText key && not (repeats key seen)) (packable depth v && packableEntries depth (key ∷ seen) es) p in
-      let k = and-true (validText key) (not (repeats key seen)) (b .0) in
-      let c = and-true (packable depth v) (packableEntries depth (key ∷ seen) es) (b .1) in
+      let b = and-eq-true-iff (validText key && not (repeats key seen)) (packable depth v && packableEntries depth (key ∷ seen) es) .0 p in
+      let k = and-eq-true-iff (validText key) (not (repeats key seen)) .0 (b .0) in
+      let c = and-eq-true-iff (packable depth v) (packableEntries depth (key ∷ seen) es) .0 (b .1) in
       let w = here-back (packString key) (pack v ++ packEntries es) h in
       rw (read-key key seen (k .0) (not-true (repeats key seen) (k .1)) (here-front (packString key) (pack v ++ packEntries es) h))
       (rw (read-value v depth (c .0) (here-front (pack v) (packEntries es) w))

@@ -1,28 +1,37 @@
 -- What a call answers in document 01's terms, and the rule that every refusal keeps ("Refusal numbers": "Every refusal consumes 0
 -- and changes nothing"; "Values": "Refusals other than 7 to 16 give place 0"). Assumes nothing.
 use Prim.Native.Nat.{ℕ}
-use mathlib.Core.Bool.{Bool, cond, _&&_}
+use mathlib.Core.Bool.{Bool, false, _&&_}
+use mathlib.Core.List.{List}
+use mathlib.Core.Path.{_≡_}
 use lib.Dec.{leb}
+use lib.ListN.{length}
 
 -- a result, or a refusal with its number and its place
 pub data Answer (A : Type 0) : Type 0 where
   result : A → Answer A
   refused : ℕ → ℕ → Answer A
 
--- 7 to 16 name a place in the message
-abbrev pub hasPlace : ℕ → Bool
-hasPlace number = leb 7 number && leb number 16
-
--- the refusal with this number, at this place if it names one, else at 0
-abbrev pub refusal : {A : Type 0} → ℕ → ℕ → Answer A
-refusal number place = refused number (cond (hasPlace number) place 0)
-
 -- how much input was consumed: what the result says, 0 where refused
 abbrev pub consumed : {A : Type 0} → (A → ℕ) → Answer A → ℕ
 consumed used (result a) = used a
 consumed used (refused number place) = 0
 
+-- what a writer tells its caller: how many bytes it wrote
+abbrev pub counted : Answer (List ℕ) → Answer ℕ
+counted (result v) = result (length v)
+counted (refused number place) = refused number place
+
 -- what stands in lent memory, or in the record, afterwards: what the result leaves there, or what stood there before
 abbrev pub left : {A B : Type 0} → (A → B → B) → Answer A → B → B
 left leaves (result a) before = leaves a before
 left leaves (refused number place) before = before
+
+-- 7 to 16 name a place in the message
+abbrev pub hasPlace : ℕ → Bool
+hasPlace number = leb 7 number && leb number 16
+
+-- any other refusal gives place 0
+abbrev pub Placed : {A : Type 0} → Answer A → Type 0
+Placed (result a) = Unit {0}
+Placed (refused number place) = hasPlace number ≡ false → place ≡ 0

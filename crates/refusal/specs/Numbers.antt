@@ -1,5 +1,6 @@
 -- The refusals by their numbers: document 01, "Refusal numbers", line by line. Assumes nothing.
 use Prim.Native.Nat.{ℕ}
+use mathlib.Core.Path.{_≡_}
 use Rattle.refusal.specs.declared.Refusal.{Refusal}
 use Rattle.refusal.specs.declared.Refusal.the-variants.{HandshakeTruncated, WrongPreamble, NoCommonVersion, FrameIncomplete, EmptyMessage, TooLong, ValueTruncated, ReservedMarker, TooDeep, InvalidUtf8, KeyNotString, DuplicateKey, TrailingBytes, UnknownRequest, WrongFieldCount, InvalidField, QueueFull, ConnectionDefunct, UnexpectedReport, RequestLimitReached, NoRoom, InvalidChunking, InvalidLine, InvalidRecord}
 
@@ -36,3 +37,7 @@ numberOf InvalidChunking = 22
 numberOf InvalidLine = 23
 -- record breaks a standing rule
 numberOf InvalidRecord = 24
+
+-- no two refusals have the same number: the number tells which it is
+abbrev pub Distinct : Type 0
+Distinct = (a b : Refusal) → numberOf a ≡ numberOf b → a ≡ b

@@ -1,1 +1,3 @@
 pub mod Sequences
+pub mod Utf8
+pub mod Encoding

@@ -36,7 +36,7 @@ fn is_scalar(v: u32) -> bool
 }
 
 // `size`, if the sequence of that size whose lead byte lies at `at` and gave `bits` is well-formed; else 0. A scalar value below
-// `least` is overlong.
+// `least` is overlong. Every call names the size, so that the loop can be unrolled there.
 fn complete(bytes: &[u8], at: usize, size: usize, least: u32, bits: u8) -> usize
     requires { ⌜ (at < length (now bytes)) × (1 ≤ size) × (size ≤ 4) × (bits < 0x40) ⌝ }
     ensures { λ r. ⌜ r ≡ sized size least bits (drop (at + 1) (now (bytes .entry))) ⌝ }

@@ -1,18 +1,15 @@
--- `utf8::complete` meets its contract. The loop's invariant: what is left of the sequence decides as the whole of it does, and i bytes
--- gave at most 6 * i bits. Assumes nothing.
-use mathlib.Core.Path.{_≡_, refl, sym, _∙_}
-use Prim.Native.Nat.{_+_, _-_, _^_, _≤_, _<_}
+-- `utf8::complete` meets its contract. The loop's invariant: i bytes of the sequence are read. Assumes nothing.
+use mathlib.Core.Path.{sym, _∙_}
+use Prim.Native.Nat.{_-_}
 use native.Mathlib.Omega.{arith}
 use borrow.Author.Needs.{needs}
-use borrow.Author.Tests.{not-true, not-false, le-leb, lt-leb}
-use lib.ListN.{length, getD}
-use Rattle.utf8.proofs.Sequences.{room, grown, Completing, cut-off, no-continuation, continued, overlong, no-scalar, well-formed}
+use borrow.Author.Tests.{not-true, not-false}
+use Rattle.utf8.proofs.Sequences.{Reading, reading, cut-off, room, no-continuation, continued, overlong, no-scalar, well-formed}
 use Rattle.utf8.proofs.complete.Statement.{statement}
 use Rattle.utf8.proofs.complete.Tie as tie
 
 abbrev Inv-loop : tie.InvT-loop
-Inv-loop bytes at size least bits scalar₀ i₀ scalar i =
-    (1 ≤ i) × (i ≤ size) × (at + size ≤ length bytes) × (scalar < 0x40 ^ i) × Completing bytes at size least bits scalar i
+Inv-loop bytes at size least bits scalar₀ i₀ scalar i = Reading bytes at size least bits scalar i
 
 abbrev μ-loop : tie.MeasureT-loop
 μ-loop bytes at size least bits scalar₀ i₀ scalar i = size - i
@@ -26,7 +23,9 @@ returns c =
     cut-off (a .bytes .now) (a .at) (a .size) (a .least) (a .bits) (omega arith) (omega arith) (omega arith)
 
 loop-holds : tie.Need-loop-holds Inv-loop μ-loop
-loop-holds c = (omega arith, omega arith, omega arith, omega arith, refl)
+loop-holds c =
+    let a = c .before .before .args in
+    reading (a .bytes .now) (a .at) (a .size) (a .least) (a .bits) (omega arith) (omega arith) (omega arith)
 
 add-b : tie.Need-add-b Inv-loop μ-loop
 add-b c = search needs
@@ -39,14 +38,13 @@ is-continuation-requires c κs = search needs
 
 returns-2 : tie.Need-returns-2 Inv-loop μ-loop
 returns-2 c =
-    let a = c .before .before .before .before .before .before .before .args in
     let l = c .before .before .before .before .loop in
-    no-continuation (a .bytes .now) (a .at) (a .size) (a .least) (a .bits) (l .scalar) (l .i) (l .inv .4) (omega arith) (omega arith) (sym (c .before .is-continuation .ensures) ∙ not-true _ (c .if2 .taken))
+    no-continuation (l .inv) (omega arith) (sym (c .before .is-continuation .ensures) ∙ not-true _ (c .if2 .taken))
 
 shift-in-requires : tie.Need-shift-in-requires Inv-loop μ-loop
 shift-in-requires c κs =
     let l = c .before .before .before .before .loop in
-    room (l .scalar) (l .i) (l .inv .3) (omega arith)
+    room (l .inv) (omega arith) (omega arith)
 
 add-i : tie.Need-add-i Inv-loop μ-loop
 add-i c = search needs
@@ -56,35 +54,27 @@ loop-less c = search needs
 
 loop-again : tie.Need-loop-again Inv-loop μ-loop
 loop-again c =
-    let a = c .before .before .before .before .before .before .before .before .args in
-    let l = c .before .before .before .before .before .loop in (
-      omega arith,
-      omega arith,
-      omega arith,
-      rw (c .shift-in .ensures) (grown (l .scalar) (getD (a .bytes .now) (a .at + l .i) 0) (l .i) (l .inv .3)),
-      continued (a .bytes .now) (a .at) (a .size) (a .least) (a .bits) (l .scalar) (l .i) (l .inv .4) (omega arith) (omega arith) (sym (c .before .before .is-continuation .ensures) ∙ not-false _ (c .before .if2 .left)) (c .shift-in .result) (c .shift-in .ensures),
-    )
+    let l = c .before .before .before .before .before .loop in
+    continued (l .inv) (omega arith) (sym (c .before .before .is-continuation .ensures) ∙ not-false _ (c .before .if2 .left))
+    (c .shift-in .result) (c .shift-in .ensures)
 
 returns-3 : tie.Need-returns-3 Inv-loop μ-loop
 returns-3 c =
-    let a = c .before .before .before .before .before .args in
     let l = c .before .before .loop in
-    overlong (a .bytes .now) (a .at) (a .size) (a .least) (a .bits) (l .scalar) (l .i) (l .inv .4) (omega arith) (omega arith)
+    overlong (l .inv) (omega arith) (c .if3 .taken)
 
 is-scalar-requires : tie.Need-is-scalar-requires Inv-loop μ-loop
 is-scalar-requires c κs = search needs
 
 returns-4 : tie.Need-returns-4 Inv-loop μ-loop
 returns-4 c =
-    let a = c .before .before .before .before .before .before .before .args in
     let l = c .before .before .before .before .loop in
-    no-scalar (a .bytes .now) (a .at) (a .size) (a .least) (a .bits) (l .scalar) (l .i) (l .inv .4) (omega arith) (omega arith) (sym (c .before .is-scalar .ensures) ∙ not-true _ (c .if4 .taken))
+    no-scalar (l .inv) (omega arith) (omega arith) (sym (c .before .is-scalar .ensures) ∙ not-true _ (c .if4 .taken))
 
 returns-5 : tie.Need-returns-5 Inv-loop μ-loop
 returns-5 c =
-    let a = c .before .before .before .before .before .before .before .args in
     let l = c .before .before .before .before .loop in
-    well-formed (a .bytes .now) (a .at) (a .size) (a .least) (a .bits) (l .scalar) (l .i) (l .inv .4) (omega arith) (omega arith) (sym (c .before .is-scalar .ensures) ∙ not-false _ (c .if4 .left))
+    well-formed (l .inv) (omega arith) (omega arith) (sym (c .before .is-scalar .ensures) ∙ not-false _ (c .if4 .left))
 
 pub complete-spec : {M : Type 1} → statement M
 complete-spec =

@@ -2,11 +2,11 @@
 use mathlib.Core.Path.{_≡_, sym, ap, _∙_}
 use Prim.Native.Nat.{ℕ, _+_, _-_}
 use native.Mathlib.Omega.{arith}
+use borrow.Author.Needs.{needs}
 use Rattle.slices.specs.Parts.{part}
 use Rattle.slices.proofs.Parts.{part-past, part-cut}
 use Rattle.utf8.specs.Utf8.{utf8}
-use Rattle.utf8.proofs.Sequences.{utf8-nil}
-use borrow.Author.Needs.{needs}
+use Rattle.utf8.proofs.Utf8.{utf8-nil}
 use Rattle.utf8.proofs.is_utf8_part.Statement.{statement}
 use Rattle.utf8.proofs.is_utf8_part.Tie as tie
 

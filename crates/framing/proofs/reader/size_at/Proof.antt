@@ -1,8 +1,9 @@
 -- `reader::size_at` meets its contract. Assumes nothing.
+use mathlib.Core.Path.{sym}
 use native.Mathlib.Omega.{arith}
 use Prim.Native.Nat.{_+_}
 use borrow.Author.Needs.{needs}
-use Rattle.framing.proofs.Scanning.{size-of}
+use Rattle.numbers.proofs.BigEndian.{big-two}
 use Rattle.framing.proofs.reader.size_at.Statement.{statement}
 use Rattle.framing.proofs.reader.size_at.Tie as tie
 
@@ -34,7 +35,7 @@ returns : tie.Need-returns
 returns c =
     let a = c .before .before .args in
     let g = c .shared-slice-known2 .given in
-    (size-of (a .input .now) (a .at) (omega arith), omega (arith, g (a .at), g (a .at + 1)))
+    (sym (big-two (a .input .now) (a .at) (omega arith)), omega (arith, g (a .at), g (a .at + 1)))
 
 pub size-at-spec : {M : Type 1} → statement M
 size-at-spec =

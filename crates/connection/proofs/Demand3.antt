@@ -1,0 +1,398 @@
+-- Demand 3 holds of every list of calls: the theorem `demand3`. Beside it: `checked`, when a call gives 24. Assumes nothing.
+use mathlib.Core.Path.{_≡_, refl, sym, ap, _∙_, subst}
+use mathlib.Core.Bool.{Bool, true, false, cond, not, true≢false, false≢true, _&&_, _||_}
+use mathlib.Core.List.{List, [], _∷_, _++_, map, append-assoc, append-nil}
+use mathlib.Core.Logic.{⊎-elim, _⊎_, inl, inr}
+use Prim.Native.Nat.{ℕ, suc, _+_, _-_, _<_, _≤_}
+use native.Mathlib.Nat.{add-zero, zero-add}
+use native.Mathlib.Omega.{arith}
+use lib.Dec.{eqb, leb}
+use lib.ListN.{length, take, length-append, length-map}
+use lib.Seq.{length-sets}
+use borrow.Author.Tests.{le-leb}
+use Rattle.refusal.specs.Answer.{Answer, result, refused}
+use Rattle.connection.specs.declared.record.State.{State}
+use Rattle.connection.specs.declared.record.State.the-variants.{Connected, Ready, Failed, Interrupted, Defunct}
+use Rattle.connection.specs.declared.record.Request.{Request}
+use Rattle.connection.specs.declared.record.Connection.{Connection}
+use Rattle.connection.specs.declared.answers.Outcome.{Outcome}
+use Rattle.connection.specs.declared.answers.Outcome.the-variants as O
+use Rattle.connection.specs.declared.answers.Failure.the-variants.{StreamsFull, StreamUnknown}
+use Rattle.connection.specs.declared.answers.Summary.{Summary}
+use Rattle.connection.specs.declared.answers.Summary.the-variants as S
+use Rattle.connection.specs.declared.turn.Turn.{Turn}
+use Rattle.connection.specs.declared.turn.Turn.the-variants as U
+use Rattle.connection.specs.Requests.{RESET, RUN, kindOf, inState, is, fetches, inRange, any}
+use Rattle.connection.specs.Appendix.{ignores, handsOver, newState}
+use Rattle.connection.specs.Table as T
+use Rattle.connection.specs.Table.{Open, Table, Call, Said, Done, start, step, isFull, namesOpen, defunct, enqueued, accept, turnOf, counted, answer, taken, takeFirst, response, streamsAfter, waitingIn, settled, reported, fitting, reportFirst}
+use Rattle.connection.specs.Record.{After, joined, kept, put, slot, keepsRules, carried, called, fresh}
+use Rattle.connection.specs.Rules.{isHanded}
+use Rattle.connection.specs.Claim.{callOf, Event, run, events, saidBy, leftBy, runT, eventsT, acceptedBy, requests, Numbered, pairedWith, summaryBy, summaries, numbered, handsOne, wronglyHanded, Demand3, Checked}
+use Rattle.connection.proofs.Bools.{by-test, and-both}
+use Rattle.connection.proofs.Calls.{broken, standing}
+use Rattle.connection.proofs.Invariant.{Keeps, step-keeps, start-keeps, keeps-rules}
+use Rattle.connection.proofs.Keeping.{Fits}
+use Rattle.connection.proofs.Numbers.{open-laid}
+use Rattle.connection.proofs.Rows.{hands-running}
+use Rattle.connection.proofs.Turns.{handed-facts}
+use Rattle.connection.proofs.Waiting.{front-length, front-lined}
+
+-- ---- what a step of the table does to the queue: it sends no summary, or one for the first that waits
+data Moved (t : Table) (x : Call) (u : Table) (s : Answer Said) : Type 0 where
+  quiet : summaryBy (t .waiting) s ≡ [] → u .sent ≡ t .sent → u .accepted ≡ t .accepted + length (acceptedBy x s)
+      → (inState (u .state) Defunct ≡ false → t .waiting ++ acceptedBy x s ≡ u .waiting) → Moved t x u s
+  spoke : (r : Request) (ws : List Request) → t .waiting ≡ r ∷ ws → summaryBy (t .waiting) s ≡ record { number = t .sent + 1; request = r } ∷ [] → u .sent ≡ t .sent + 1
+      → u .accepted ≡ t .accepted → acceptedBy x s ≡ [] → (inState (u .state) Defunct ≡ false → u .waiting ≡ ws) → Moved t x u s
+
+abbrev Moves : Table → Call → Answer Done → Type 0
+Moves t x a = Moved t x (leftBy t a) (saidBy a)
+
+abbrev Does : Table → Call → Done → Type 0
+Does t x d = Moves t x (result d)
+
+-- nothing is accepted and nothing waits otherwise
+module _ (t : Table) where
+  still : (x : Call) (u : Table) (s : Answer Said) → summaryBy (t .waiting) s ≡ [] → acceptedBy x s ≡ [] → u .sent ≡ t .sent → u .accepted ≡ t .accepted → (inState (u .state) Defunct ≡ false → u .waiting ≡ t .waiting) → Moved t x u s
+  still x u s z a p q f =
+      quiet z p (q ∙ sym (ap (λ (l : List Request). t .accepted + length l) a ∙ add-zero (t .accepted))) (λ d. ap (λ (l : List Request). t .waiting ++ l) a ∙ append-nil (t .waiting) ∙ sym (f d))
+
+  none-accepted : (x : Call) (number place : ℕ) → acceptedBy x (refused number place) ≡ []
+  none-accepted (T.arrive r) number place = refl
+  none-accepted T.take number place = refl
+  none-accepted (T.report o) number place = refl
+  none-accepted T.close number place = refl
+
+  refuses : (x : Call) (number place : ℕ) → Moves t x (refused number place)
+  refuses x number place = still x t (refused number place) refl (none-accepted x number place) refl refl (λ _. refl)
+
+  -- ---- arrive
+  moved-accept : (r : Request) → Does t (T.arrive r) (accept t r)
+  moved-accept r =
+      by-test (Does t (T.arrive r)) (is RESET r)
+      (λ _. by-test (Does t (T.arrive r)) (inState (t .state) Connected) (λ _. quiet refl refl refl (λ d. absurd (true≢false d))) (λ _. quiet refl refl refl (λ _. refl)))
+      (λ _. quiet refl refl refl (λ _. refl))
+
+  moved-arrive : (r : Request) → Moves t (T.arrive r) (T.arriveT t r)
+  moved-arrive r =
+      by-test (Moves t (T.arrive r)) (inState (t .state) Defunct) (λ _. refuses (T.arrive r) 18 0)
+      (λ _. by-test (Moves t (T.arrive r)) (inRange r)
+      (λ _. by-test (Moves t (T.arrive r)) (leb 4294967295 (t .accepted)) (λ _. refuses (T.arrive r) 20 0)
+      (λ _. by-test (Moves t (T.arrive r)) (leb 32 (length (t .waiting))) (λ _. refuses (T.arrive r) 17 0) (λ _. moved-accept r)))
+      (λ _. refuses (T.arrive r) 16 0))
+
+  -- ---- take and report
+  module _ (r : Request) (ws : List Request) (e : t .waiting ≡ r ∷ ws) where
+    -- a summary for the first
+    speaks : (x : Call) (s : State) (o : Open) (b : Bool) (summary : Summary) → inState s Defunct ≡ b → ((a : Answer Said) → acceptedBy x a ≡ []) → Does t x (answer t s o (cond b [] ws) summary)
+    speaks x s o b summary d none =
+        spoke r ws e (ap (pairedWith (t .sent + 1)) e) refl refl (none (result (T.answered summary (t .sent + 1)))) (λ f. ap (λ (b : Bool). cond b [] ws) (sym d ∙ f))
+
+    taking : (a : Answer Said) → acceptedBy T.take a ≡ []
+    taking a = refl
+
+    moved-taken : (u : Turn) → inState (t .state) Defunct ≡ false → Does t T.take (taken u t r ws)
+    moved-taken U.Closes alive = still T.take (defunct t) (result T.closed) refl refl refl refl (λ d. absurd (true≢false d))
+    moved-taken U.Resets alive = by-reset (any (is RESET) ws)
+      where
+        by-reset : (b : Bool) → Does t T.take (answer t (cond b Interrupted Ready) (T.noneOpen (t .streams)) ws S.Success)
+        by-reset true = speaks T.take Interrupted (T.noneOpen (t .streams)) false S.Success refl taking
+        by-reset false = speaks T.take Ready (T.noneOpen (t .streams)) false S.Success refl taking
+    moved-taken U.Ignored alive = speaks T.take (t .state) (t .streams) false S.Ignored alive taking
+    moved-taken U.Handed alive = still T.take (taken U.Handed t r ws .table) (result (T.handed r (t .sent + 1))) refl refl refl refl (λ _. refl)
+    moved-taken U.Full alive = speaks T.take Failed (T.noneOpen (t .streams)) false (S.Failure StreamsFull) refl taking
+    moved-taken U.Unknown alive = speaks T.take Failed (T.noneOpen (t .streams)) false (S.Failure StreamUnknown) refl taking
+
+    moved-reported : (o : Outcome) → inState (t .state) Defunct ≡ false → Does t (T.report o) (reported o t r ws)
+    moved-reported o alive =
+        let after : Open = streamsAfter o (t .state) (t .streams) r in
+        let new : State = newState (t .state) (kindOf r) (response o r (length (after .numbers))) in
+        let summary : Summary = T.summaryOf o (t .state) (t .streams .next) r in
+        by-test (Does t (T.report o)) (inState (t .state) Interrupted) (λ _. speaks (T.report o) (t .state) (t .streams) false summary alive (λ _. refl))
+        (λ _. speaks (T.report o) new after (inState new Defunct) summary refl (λ _. refl))
+
+  moved-first : inState (t .state) Defunct ≡ false → (l : List Request) → t .waiting ≡ l → Does t T.take (takeFirst t l)
+  moved-first alive [] e = still T.take t (result T.idle) refl refl refl refl (λ _. refl)
+  moved-first alive (r ∷ ws) e = moved-taken r ws e (turnOf (t .state) (t .streams) r) alive
+
+  moved-outcome : inState (t .state) Defunct ≡ false → (o : Outcome) (l : List Request) → t .waiting ≡ l → Moves t (T.report o) (reportFirst o t l)
+  moved-outcome alive o [] e = refuses (T.report o) 19 0
+  moved-outcome alive o (r ∷ ws) e = by-test (Moves t (T.report o)) (fitting o r) (λ _. moved-reported r ws e o alive) (λ _. refuses (T.report o) 19 0)
+
+  moved : (x : Call) → Moves t x (step t x)
+  moved (T.arrive r) = moved-arrive r
+  moved T.take =
+      by-test (Moves t T.take) (inState (t .state) Defunct) (λ _. refuses T.take 18 0)
+      (λ alive. by-test (Does t T.take) (t .inFlight) (λ _. still T.take t (result T.idle) refl refl refl refl (λ _. refl)) (λ _. moved-first alive (t .waiting) refl))
+  moved (T.report o) =
+      by-test (Moves t (T.report o)) (inState (t .state) Defunct) (λ _. refuses (T.report o) 18 0)
+      (λ alive. by-test (Moves t (T.report o)) (t .inFlight) (λ _. moved-outcome alive o (t .waiting) refl) (λ _. refuses (T.report o) 19 0))
+  moved T.close =
+      by-test (Moves t T.close) (inState (t .state) Defunct) (λ _. refuses T.close 18 0)
+      (λ _. still T.close (defunct t) (result T.closed) refl refl refl refl (λ d. absurd (true≢false d)))
+
+-- ---- no request is handed over in FAILED or INTERRUPTED
+abbrev Rightly : Table → Call → Answer Done → Type 0
+Rightly t x a = wronglyHanded (record { before = t; call = x; answer = saidBy a }) ≡ false
+
+module _ (t : Table) where
+  rightly-taken : (r : Request) (ws : List Request) (u : Turn) → (isHanded u ≡ true → (inState (t .state) Failed || inState (t .state) Interrupted) ≡ false) → Rightly t T.take (result (taken u t r ws))
+  rightly-taken r ws U.Closes f = refl
+  rightly-taken r ws U.Resets f = refl
+  rightly-taken r ws U.Ignored f = refl
+  rightly-taken r ws U.Handed f = f refl
+  rightly-taken r ws U.Full f = refl
+  rightly-taken r ws U.Unknown f = refl
+
+  rightly-first : (l : List Request) → Rightly t T.take (result (takeFirst t l))
+  rightly-first [] = refl
+  rightly-first (r ∷ ws) = rightly-taken r ws (turnOf (t .state) (t .streams) r) (λ h. hands-running (t .state) (kindOf r) (handed-facts (t .state) (t .streams) r h .0))
+
+  rightly-outcome : (o : Outcome) (l : List Request) → Rightly t (T.report o) (reportFirst o t l)
+  rightly-outcome o [] = refl
+  rightly-outcome o (r ∷ ws) =
+      by-test (Rightly t (T.report o)) (fitting o r) (λ _. by-test (λ (d : Done). Rightly t (T.report o) (result d)) (inState (t .state) Interrupted) (λ _. refl) (λ _. refl)) (λ _. refl)
+
+  rightly : (x : Call) → Rightly t x (step t x)
+  rightly (T.arrive r) =
+      by-test (Rightly t (T.arrive r)) (inState (t .state) Defunct) (λ _. refl)
+      (λ _. by-test (Rightly t (T.arrive r)) (inRange r)
+      (λ _. by-test (Rightly t (T.arrive r)) (leb 4294967295 (t .accepted)) (λ _. refl)
+      (λ _. by-test (Rightly t (T.arrive r)) (leb 32 (length (t .waiting))) (λ _. refl)
+      (λ _. by-test (λ (d : Done). Rightly t (T.arrive r) (result d)) (is RESET r)
+      (λ _. by-test (λ (d : Done). Rightly t (T.arrive r) (result d)) (inState (t .state) Connected) (λ _. refl) (λ _. refl)) (λ _. refl))))
+      (λ _. refl))
+  rightly T.take =
+      by-test (Rightly t T.take) (inState (t .state) Defunct) (λ _. refl)
+      (λ _. by-test (λ (d : Done). Rightly t T.take (result d)) (t .inFlight) (λ _. refl) (λ _. rightly-first (t .waiting)))
+  rightly (T.report o) =
+      by-test (Rightly t (T.report o)) (inState (t .state) Defunct) (λ _. refl)
+      (λ _. by-test (Rightly t (T.report o)) (t .inFlight) (λ _. rightly-outcome o (t .waiting)) (λ _. refl))
+  rightly T.close = by-test (Rightly t T.close) (inState (t .state) Defunct) (λ _. refl) (λ _. refl)
+
+-- ---- in DEFUNCT every call is refused, and nothing changes
+dead : (t : Table) (x : Call) → inState (t .state) Defunct ≡ true → step t x ≡ refused 18 0
+dead t (T.arrive r) e = rw e
+dead t T.take e = rw e
+dead t (T.report o) e = rw e
+dead t T.close e = rw e
+
+no-summary : (t : Table) → inState (t .state) Defunct ≡ true → (calls : List Call) → summaries (eventsT t calls) ≡ []
+no-summary t d [] = refl
+no-summary t d (x ∷ xs) = ap (λ (a : Answer Done). summaryBy (t .waiting) (saidBy a) ++ summaries (eventsT (leftBy t a) xs)) (dead t x d) ∙ no-summary t d xs
+
+-- ---- the whole run of the table
+record Told (t : Table) (calls : List Call) : Type 0 where
+  sent : runT t calls .sent ≡ t .sent + length (summaries (eventsT t calls))
+  accepted : runT t calls .accepted ≡ t .accepted + length (requests (eventsT t calls))
+  kth : summaries (eventsT t calls) ≡ numbered (t .sent + 1) (take (length (summaries (eventsT t calls))) (t .waiting ++ requests (eventsT t calls)))
+  never : any wronglyHanded (eventsT t calls) ≡ false
+
+-- the k-th rule, over a call that sends nothing, and over one that sends a summary
+kth-quiet : (a b : List Numbered) (k j : ℕ) (l m : List Request) → a ≡ b → j ≡ k → m ≡ l → b ≡ numbered j (take (length b) m) → a ≡ numbered k (take (length a) l)
+kth-quiet a b k j l m e p q h = e ∙ h ∙ (λ i. numbered (p i) (take (length (sym e i)) (q i)))
+
+kth-spoke : (a b : List Numbered) (k j : ℕ) (r : Request) (l m all : List Request) → a ≡ record { number = k; request = r } ∷ b → j ≡ k + 1 → all ≡ r ∷ l → m ≡ l → b ≡ numbered j (take (length b) m) → a ≡ numbered k (take (length a) all)
+kth-spoke a b k j r l m all e p f q h =
+    e ∙ (λ i. record { number = k; request = r } ∷ (h ∙ (λ z. numbered (p z) (take (length b) (q z)))) i) ∙ (λ i. numbered k (take (length (sym e i)) (sym f i)))
+
+-- the same where the connection has ended
+kth-ended : (a : List Numbered) (k : ℕ) (l : List Request) → a ≡ [] → a ≡ numbered k (take (length a) l)
+kth-ended a k l e = e ∙ (λ i. numbered k (take (length (sym e i)) l))
+
+kth-last : (a b : List Numbered) (k : ℕ) (r : Request) (l all : List Request) → a ≡ record { number = k; request = r } ∷ b → b ≡ [] → all ≡ r ∷ l → a ≡ numbered k (take (length a) all)
+kth-last a b k r l all e d f =
+    let whole : a ≡ record { number = k; request = r } ∷ [] = e ∙ ap (λ (z : List Numbered). record { number = k; request = r } ∷ z) d in
+    whole ∙ (λ i. numbered k (take (length (sym whole i)) (sym f i)))
+
+either : (b : Bool) → (b ≡ true) ⊎ (b ≡ false)
+either true = inl refl
+either false = inr refl
+
+module _ (t : Table) (x : Call) (xs : List Call) (rest : Told (leftBy t (step t x)) xs) where
+  abbrev u : Table
+  u = leftBy t (step t x)
+
+  abbrev said : Answer Said
+  said = saidBy (step t x)
+
+  abbrev rs : List Request
+  rs = requests (eventsT u xs)
+
+  abbrev ss : List Numbered
+  ss = summaries (eventsT u xs)
+
+  more : length (acceptedBy x said ++ rs) ≡ length (acceptedBy x said) + length rs
+  more = length-append (acceptedBy x said) rs
+
+  none : any wronglyHanded (eventsT t (x ∷ xs)) ≡ false
+  none = ap (λ (b : Bool). b || any wronglyHanded (eventsT u xs)) (rightly t x) ∙ rest .never
+
+  told-more : Moved t x u said → Told t (x ∷ xs)
+  told-more (quiet z s a f) =
+      let all : summaries (eventsT t (x ∷ xs)) ≡ ss = ap (λ (l : List Numbered). l ++ ss) z in
+      record {
+        sent = rest .sent ∙ ap (λ (k : ℕ). k + length ss) s ∙ ap (λ (l : List Numbered). t .sent + length l) (sym all);
+        accepted = rest .accepted ∙ omega (arith, a, more);
+        kth = ⊎-elim (λ d. kth-ended (summaries (eventsT t (x ∷ xs))) (t .sent + 1) (t .waiting ++ requests (eventsT t (x ∷ xs))) (all ∙ no-summary u d xs))
+            (λ d. kth-quiet (summaries (eventsT t (x ∷ xs))) ss (t .sent + 1) (u .sent + 1) (t .waiting ++ (acceptedBy x said ++ rs)) (u .waiting ++ rs) all (ap (λ (k : ℕ). k + 1) s)
+            (ap (λ (l : List Request). l ++ rs) (sym (f d)) ∙ append-assoc (t .waiting) (acceptedBy x said) rs) (rest .kth))
+            (either (inState (u .state) Defunct));
+        never = none;
+      }
+  told-more (spoke r ws e z s a b f) =
+      let all : summaries (eventsT t (x ∷ xs)) ≡ record { number = t .sent + 1; request = r } ∷ ss = ap (λ (l : List Numbered). l ++ ss) z in
+      let same : requests (eventsT t (x ∷ xs)) ≡ rs = ap (λ (l : List Request). l ++ rs) b in
+      let whole : t .waiting ++ requests (eventsT t (x ∷ xs)) ≡ r ∷ (ws ++ rs) = (λ i. e i ++ same i) in
+      record {
+        sent = rest .sent ∙ omega (arith, s, ap length all);
+        accepted = rest .accepted ∙ omega (arith, a, ap length same);
+        kth = ⊎-elim (λ d. kth-last (summaries (eventsT t (x ∷ xs))) ss (t .sent + 1) r (ws ++ rs) (t .waiting ++ requests (eventsT t (x ∷ xs))) all (no-summary u d xs) whole)
+            (λ d. kth-spoke (summaries (eventsT t (x ∷ xs))) ss (t .sent + 1) (u .sent + 1) r (ws ++ rs) (u .waiting ++ rs) (t .waiting ++ requests (eventsT t (x ∷ xs))) all (ap (λ (k : ℕ). k + 1) s) whole
+            (ap (λ (l : List Request). l ++ rs) (f d)) (rest .kth))
+            (either (inState (u .state) Defunct));
+        never = none;
+      }
+
+told : (t : Table) (calls : List Call) → Told t calls
+told t [] = record { sent = sym (add-zero (t .sent)); accepted = sym (add-zero (t .accepted)); kth = refl; never = refl }
+told t (x ∷ xs) = told-more t x xs (told (leftBy t (step t x)) xs) (moved t x)
+
+-- ---- the record follows the table
+record Fit (c : Connection) : Type 0 where
+  fits : Fits (c .control) (c .queue)
+  keeps : Keeps (kept c)
+
+fit-rules : (c : Connection) → Fit c → keepsRules c ≡ true
+unfolding keepsRules
+fit-rules c f = and-both _ _ (le-leb _ _ (f .fits .few)) (and-both _ _ (le-leb _ _ (f .fits .fewer)) (keeps-rules (kept c) (f .keeps)))
+
+module _ (c : Connection) (t : Table) (f : Fits (c .control) (c .queue)) (k : Keeps t) where
+  kept-put : kept (put c t) ≡ t
+  kept-put = λ i. record {
+    state = t .state;
+    waiting = front-lined (c .queue) (length (t .waiting)) (f .places) (t .waiting) refl (k .long) i;
+    inFlight = t .inFlight;
+    streams = open-laid (c .control .streams) (f .numbers) (t .streams) (k .numbers .few) i;
+    accepted = t .accepted;
+    sent = t .sent;
+  }
+
+  fit-put : Fit (put c t)
+  fit-put = record {
+    fits = record {
+      places = length-sets (c .queue .slots) 0 (map slot (t .waiting)) ∙ f .places;
+      numbers = length-sets (c .control .streams .numbers) 0 (t .streams .numbers) ∙ f .numbers;
+      few = k .long;
+      fewer = k .numbers .few;
+    };
+    keeps = subst Keeps (sym kept-put) k;
+  }
+
+called-is : (c : Connection) → Fit c → (a : Answer Done) → called c a ≡ carried c a
+called-is c f a = sym (standing c a (fit-rules c f))
+
+call-is : (c : Connection) → Fit c → (x : Call) → callOf c x ≡ carried c (step (kept c) x)
+call-is c f (T.arrive r) = called-is c f (T.arriveT (kept c) r)
+call-is c f T.take = called-is c f (T.takeT (kept c))
+call-is c f (T.report o) = called-is c f (T.reportT (kept c) o)
+call-is c f T.close = called-is c f (T.closeT (kept c))
+
+-- what is carried is what the table says and leaves
+record Carried (c : Connection) (a : Answer Done) (w : After) : Type 0 where
+  answer : w .answer ≡ saidBy a
+  table : kept (w .connection) ≡ leftBy (kept c) a
+  fit : Fit (w .connection)
+
+carry : (c : Connection) → Fit c → (a : Answer Done) → Keeps (leftBy (kept c) a) → Carried c a (carried c a)
+carry c f (result d) k = record { answer = refl; table = kept-put c (d .table) (f .fits) k; fit = fit-put c (d .table) (f .fits) k }
+carry c f (refused number place) k = record { answer = refl; table = refl; fit = f }
+
+record Follows (c : Connection) (calls : List Call) : Type 0 where
+  seen : events c calls ≡ eventsT (kept c) calls
+  final : kept (run c calls) ≡ runT (kept c) calls
+  fit : Fit (run c calls)
+
+follows : (c : Connection) → Fit c → (calls : List Call) → Follows c calls
+follows c f [] = record { seen = refl; final = refl; fit = f }
+follows c f (x ∷ xs) =
+    let a = step (kept c) x in
+    let w : Carried c a (callOf c x) = subst (Carried c a) (sym (call-is c f x)) (carry c f a (step-keeps (kept c) (f .keeps) x)) in
+    let rest : Follows (callOf c x .connection) xs = follows (callOf c x .connection) (w .fit) xs in
+    record {
+      seen = (λ i. record { before = kept c; call = x; answer = w .answer i } ∷ (rest .seen ∙ ap (λ (t : Table). eventsT t xs) (w .table)) i);
+      final = rest .final ∙ ap (λ (t : Table). runT t xs) (w .table);
+      fit = rest .fit;
+    }
+
+fresh-fit : Fit fresh
+fresh-fit = record { fits = record { places = refl; numbers = refl; few = omega arith; fewer = omega arith }; keeps = start-keeps }
+
+-- demand 3, of every list of calls
+pub demand3 : (calls : List Call) → Demand3 calls
+demand3 calls =
+    let f : Follows fresh calls = follows fresh fresh-fit calls in
+    let g : Told start calls = told start calls in
+    let c = run fresh calls in
+    let k : Keeps (kept c) = f .fit .keeps in
+    let back : eventsT start calls ≡ events fresh calls = sym (f .seen) in
+    let size = front-length (c .queue .slots) (c .control .waiting) (f .fit .fits .places) (f .fit .fits .few) in
+    record {
+      answers = f .seen;
+      keeps = f .final;
+      standing = fit-rules c (f .fit);
+      accepted = ap (λ (t : Table). t .accepted) (f .final) ∙ g .accepted ∙ ap (λ (l : List Event). 0 + length (requests l)) back ∙ zero-add _;
+      sent = ap (λ (t : Table). t .sent) (f .final) ∙ g .sent ∙ ap (λ (l : List Event). 0 + length (summaries l)) back ∙ zero-add _;
+      sum = λ d. k .sum d ∙ ap (λ (m : ℕ). c .control .sent + m) size;
+      most = ⊎-elim (λ d. k .gone d .1) (λ d. let e = k .sum d in omega arith) (either (inState (c .control .state) Defunct));
+      kth = subst (λ (l : List Event). summaries l ≡ numbered 1 (take (length (summaries l)) (requests l))) back (g .kth);
+      never = subst (λ (l : List Event). any wronglyHanded l ≡ false) back (g .never);
+    }
+
+-- ---- 24
+number : Answer Said → ℕ
+number (result s) = 0
+number (refused n place) = n
+
+-- the state table never refuses with 24
+abbrev Not24 : Answer Done → Type 0
+Not24 a = number (saidBy a) ≡ 24 → ⊥
+
+never24 : (t : Table) (x : Call) → Not24 (step t x)
+unfolding number
+never24 t (T.arrive r) =
+    by-test Not24 (inState (t .state) Defunct) (λ _ e. omega arith)
+    (λ _. by-test Not24 (inRange r)
+    (λ _. by-test Not24 (leb 4294967295 (t .accepted)) (λ _ e. omega arith) (λ _. by-test Not24 (leb 32 (length (t .waiting))) (λ _ e. omega arith) (λ _ e. omega arith))) (λ _ e. omega arith))
+never24 t T.take = by-test Not24 (inState (t .state) Defunct) (λ _ e. omega arith) (λ _ e. omega arith)
+never24 t (T.report o) =
+    by-test Not24 (inState (t .state) Defunct) (λ _ e. omega arith) (λ _. by-test Not24 (t .inFlight) (λ _. by-first (t .waiting)) (λ _ e. omega arith))
+  where
+    by-first : (l : List Request) → Not24 (reportFirst o t l)
+    by-first [] = λ e. omega arith
+    by-first (r ∷ ws) = by-test Not24 (fitting o r) (λ _ e. omega arith) (λ _ e. omega arith)
+never24 t T.close = by-test Not24 (inState (t .state) Defunct) (λ _ e. omega arith) (λ _ e. omega arith)
+
+-- each call is the table's, behind the check
+call-called : (c : Connection) (x : Call) → callOf c x ≡ called c (step (kept c) x)
+call-called c (T.arrive r) = refl
+call-called c T.take = refl
+call-called c (T.report o) = refl
+call-called c T.close = refl
+
+carried-answer : (c : Connection) (a : Answer Done) → carried c a .answer ≡ saidBy a
+carried-answer c (result d) = refl
+carried-answer c (refused n place) = refl
+
+-- 24 exactly where the record handed in breaks a standing rule
+pub checked : (c : Connection) (call : Call) → Checked c call
+unfolding number
+checked c x = record {
+  broken = λ e. call-called c x ∙ sym (broken c (step (kept c) x) e);
+  only = λ e. by-rules (keepsRules c) refl e;
+}
+  where
+    by-rules : (b : Bool) → keepsRules c ≡ b → callOf c x .answer ≡ refused 24 0 → keepsRules c ≡ false
+    by-rules true k e =
+        absurd (never24 (kept c) x (ap number (sym (carried-answer c (step (kept c) x)) ∙ ap (λ (w : After). w .answer) (standing c (step (kept c) x) k ∙ sym (call-called c x)) ∙ e)))
+    by-rules false k e = k

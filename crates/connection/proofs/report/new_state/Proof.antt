@@ -1,0 +1,53 @@
+-- `connection::report::new_state` meets its contract: in each arm the match told the outcome. Assumes nothing.
+use borrow.Author.Needs.{needs}
+use mathlib.Core.Path.{sym, ap, _∙_}
+use Rattle.connection.specs.declared.answers.Outcome.{Outcome}
+use Rattle.connection.specs.Requests.{kindOf}
+use Rattle.connection.specs.Appendix.{newState}
+use Rattle.connection.specs.Table.{response}
+use Rattle.connection.proofs.Rows.{after-failure, after-more}
+use Rattle.connection.proofs.report.new_state.Statement.{statement}
+use Rattle.connection.proofs.report.new_state.Tie as tie
+
+enum-told : tie.Need-enum-told
+enum-told c = search needs
+
+after-success-requires : tie.Need-after-success-requires
+after-success-requires c κs = search needs
+
+enum-told-2 : tie.Need-enum-told-2
+enum-told-2 c = search needs
+
+enum-told-3 : tie.Need-enum-told-3
+enum-told-3 c = search needs
+
+after-failure-requires : tie.Need-after-failure-requires
+after-failure-requires c κs = search needs
+
+returns : tie.Need-returns
+returns c = let a = c .before .before .before .args in c .after-success .ensures ∙ ap (λ (o : Outcome). newState (a .state) (kindOf (a .request)) (response o (a .request) (a .left))) (sym (c .before .enum-told .given .1))
+
+returns-2 : tie.Need-returns-2
+returns-2 c =
+    let a = c .before .before .args in
+    sym (after-more (a .state) (kindOf (a .request))) ∙ ap (λ (o : Outcome). newState (a .state) (kindOf (a .request)) (response o (a .request) (a .left))) (sym (c .enum-told2 .given .1))
+
+returns-3 : tie.Need-returns-3
+returns-3 c =
+    let s = c .before .before .before in
+    let a = s .args in
+    c .after-failure .ensures ∙ sym (after-failure (a .state) (kindOf (a .request)) (s .pre .0))
+    ∙ ap (λ (o : Outcome). newState (a .state) (kindOf (a .request)) (response o (a .request) (a .left))) (sym (c .before .enum-told3 .given .1))
+
+pub new-state-spec : {M : Type 1} → statement M
+new-state-spec =
+    tie.close
+    (tie.spec
+    enum-told
+    after-success-requires
+    enum-told-2
+    enum-told-3
+    after-failure-requires
+    returns
+    returns-2
+    returns-3)

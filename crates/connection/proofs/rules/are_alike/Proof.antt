@@ -1,0 +1,15 @@
+-- `connection::rules::are_alike` meets its contract: by the first. Assumes nothing.
+use borrow.Author.Needs.{needs}
+use mathlib.Core.Path.{sym, _∙_}
+use Rattle.connection.proofs.Bools.{alike-yes, alike-no}
+use Rattle.connection.proofs.rules.are_alike.Statement.{statement}
+use Rattle.connection.proofs.rules.are_alike.Tie as tie
+
+returns : tie.Need-returns
+returns c = alike-yes _ _ (c .if1 .taken)
+
+returns-2 : tie.Need-returns-2
+returns-2 c = search needs
+
+pub are-alike-spec : {M : Type 1} → statement M
+are-alike-spec = tie.close (tie.spec returns returns-2)

@@ -1,0 +1,73 @@
+-- `connection::streams::is_open` meets its contract. The loop's invariant: what is left to scan decides. Assumes nothing.
+use borrow.Author.Needs.{needs}
+use mathlib.Core.Path.{_≡_, refl, sym, _∙_}
+use Prim.Native.Nat.{ℕ, _-_}
+use lib.Dec.{eqb}
+use lib.ListN.{take, drop}
+use borrow.Author.Tests.{eq-eqb, ne-eqb}
+use Rattle.connection.specs.Table.{has}
+use Rattle.connection.proofs.Lengths.{numbers}
+use Rattle.connection.proofs.Numbers.{found, passed, ended}
+use Rattle.connection.proofs.streams.is_open.Statement.{statement}
+use Rattle.connection.proofs.streams.is_open.Tie as tie
+
+abbrev Inv-loop : tie.InvT-loop
+Inv-loop from number numbers count i₀ i = has number (drop from (take count numbers)) ≡ has number (drop i (take count numbers))
+
+abbrev μ-loop : tie.MeasureT-loop
+μ-loop from number numbers count i₀ i = count - i
+
+loop-holds : tie.Need-loop-holds Inv-loop μ-loop
+loop-holds c = refl
+
+mul-if1 : tie.Need-mul-if1 Inv-loop μ-loop
+mul-if1 c = search needs
+
+array-read-if1 : tie.Need-array-read-if1 Inv-loop μ-loop
+array-read-if1 c = search needs
+
+returns : tie.Need-returns Inv-loop μ-loop
+returns c =
+    let s = c .before .before .before .before in
+    let l = c .before .before .loop in
+    sym
+    (l .inv
+    ∙ found (s .args .streams .numbers) (s .args .streams .count) (numbers (s .args .streams) _ (s .good .0)) (s .pre) (λ (x : ℕ). eqb x (s .args .number)) (l .i)
+    (c .before .loop-test .taken) (eq-eqb _ _ (c .if1 .taken)))
+
+add-i : tie.Need-add-i Inv-loop μ-loop
+add-i c = search needs
+
+loop-less : tie.Need-loop-less Inv-loop μ-loop
+loop-less c = search needs
+
+loop-again : tie.Need-loop-again Inv-loop μ-loop
+loop-again c =
+    let s = c .before .before .before .before in
+    let l = c .before .before .loop in
+    l .inv
+    ∙ passed (s .args .streams .numbers) (s .args .streams .count) (numbers (s .args .streams) _ (s .good .0)) (s .pre) (λ (x : ℕ). eqb x (s .args .number)) (l .i)
+    (c .before .loop-test .taken) (ne-eqb _ _ (c .if1 .left))
+
+returns-2 : tie.Need-returns-2 Inv-loop μ-loop
+returns-2 c =
+    let s = c .before .before .before in
+    let l = c .before .loop in
+    sym
+    (l .inv
+    ∙ ended (s .args .streams .numbers) (s .args .streams .count) (numbers (s .args .streams) _ (s .good .0)) (s .pre) (λ (x : ℕ). eqb x (s .args .number)) (l .i) (c .loop-test .left))
+
+pub is-open-spec : {M : Type 1} → statement M
+is-open-spec =
+    tie.close
+    (tie.spec
+    Inv-loop
+    μ-loop
+    loop-holds
+    mul-if1
+    array-read-if1
+    returns
+    add-i
+    loop-less
+    loop-again
+    returns-2)

@@ -1,0 +1,119 @@
+-- `connection::turn::turn_of` meets its contract: by the tests passed. Assumes nothing.
+use borrow.Author.Needs.{needs}
+use mathlib.Core.Path.{refl, sym, _∙_}
+use borrow.Author.Tests.{eq-eqb, ne-eqb, not-true, not-false}
+use Rattle.connection.specs.Record.{openOf}
+use Rattle.connection.proofs.Rows.{run-fetches}
+use Rattle.connection.proofs.Turns.{turn-by}
+use Rattle.connection.proofs.turn.turn_of.Statement.{statement}
+use Rattle.connection.proofs.turn.turn_of.Tie as tie
+
+tag-requires : tie.Need-tag-requires
+tag-requires c κs = search needs
+
+returns : tie.Need-returns
+returns c =
+    let a = c .before .before .args in
+    sym (turn-by (a .state) (openOf (a .streams)) (a .request) (eq-eqb _ _ (sym (c .before .tag .ensures) ∙ c .if1 .taken)) refl refl refl refl refl refl)
+
+is-ignored-requires : tie.Need-is-ignored-requires
+is-ignored-requires c κs = search needs
+
+returns-2 : tie.Need-returns-2
+returns-2 c =
+    let a = c .before .before .before .before .args in
+    sym
+    (turn-by (a .state) (openOf (a .streams)) (a .request) (ne-eqb _ _ (λ q. c .before .before .if1 .left (c .before .before .before .tag .ensures ∙ q)))
+    (sym (c .before .is-ignored .ensures) ∙ c .if2 .taken) refl refl refl refl refl)
+
+hands-over-requires : tie.Need-hands-over-requires
+hands-over-requires c κs = search needs
+
+returns-3 : tie.Need-returns-3
+returns-3 c =
+    let e = c .before .before .before .before in
+    let a = e .before .before .args in
+    sym
+    (turn-by (a .state) (openOf (a .streams)) (a .request) (ne-eqb _ _ (λ q. e .if1 .left (e .before .tag .ensures ∙ q)))
+    (sym (c .before .before .before .is-ignored .ensures) ∙ c .before .before .if2 .left) (sym (c .before .hands-over .ensures) ∙ not-true _ (c .if3 .taken)) refl refl refl refl)
+
+is-full-requires : tie.Need-is-full-requires
+is-full-requires c κs = search needs
+
+returns-4 : tie.Need-returns-4
+returns-4 c =
+    let h = c .before .before .before in
+    let e = h .before .before .before .before in
+    let a = e .before .before .args in
+    sym
+    (turn-by (a .state) (openOf (a .streams)) (a .request) (ne-eqb _ _ (λ q. e .if1 .left (e .before .tag .ensures ∙ q)))
+    (sym (h .before .before .before .is-ignored .ensures) ∙ h .before .before .if2 .left) (sym (h .before .hands-over .ensures) ∙ not-false _ (h .if3 .left))
+    (eq-eqb _ _ (sym (e .before .tag .ensures) ∙ c .before .before .if4 .taken)) (sym (c .before .is-full .ensures) ∙ c .if5 .taken) refl refl)
+
+returns-5 : tie.Need-returns-5
+returns-5 c =
+    let h = c .before .before .before in
+    let e = h .before .before .before .before in
+    let a = e .before .before .args in
+    let run = eq-eqb _ _ (sym (e .before .tag .ensures) ∙ c .before .before .if4 .taken) in
+    sym
+    (turn-by (a .state) (openOf (a .streams)) (a .request) (ne-eqb _ _ (λ q. e .if1 .left (e .before .tag .ensures ∙ q)))
+    (sym (h .before .before .before .is-ignored .ensures) ∙ h .before .before .if2 .left) (sym (h .before .hands-over .ensures) ∙ not-false _ (h .if3 .left))
+    run (sym (c .before .is-full .ensures) ∙ c .if5 .left) (run-fetches (a .request) run) refl)
+
+fetches-requires : tie.Need-fetches-requires
+fetches-requires c κs = search needs
+
+names-open-requires : tie.Need-names-open-requires
+names-open-requires c κs = search needs
+
+returns-6 : tie.Need-returns-6
+returns-6 c =
+    let h = c .before .before .before .before .before in
+    let e = h .before .before .before .before in
+    let a = e .before .before .args in
+    sym
+    (turn-by (a .state) (openOf (a .streams)) (a .request) (ne-eqb _ _ (λ q. e .if1 .left (e .before .tag .ensures ∙ q)))
+    (sym (h .before .before .before .is-ignored .ensures) ∙ h .before .before .if2 .left) (sym (h .before .hands-over .ensures) ∙ not-false _ (h .if3 .left))
+    (ne-eqb _ _ (λ q. c .before .before .before .before .if4 .left (e .before .tag .ensures ∙ q))) refl (sym (c .before .before .before .fetches .ensures) ∙ c .before .before .if6 .taken)
+    (sym (c .before .names-open .ensures) ∙ c .if7 .taken))
+
+returns-7 : tie.Need-returns-7
+returns-7 c =
+    let h = c .before .before .before .before .before in
+    let e = h .before .before .before .before in
+    let a = e .before .before .args in
+    sym
+    (turn-by (a .state) (openOf (a .streams)) (a .request) (ne-eqb _ _ (λ q. e .if1 .left (e .before .tag .ensures ∙ q)))
+    (sym (h .before .before .before .is-ignored .ensures) ∙ h .before .before .if2 .left) (sym (h .before .hands-over .ensures) ∙ not-false _ (h .if3 .left))
+    (ne-eqb _ _ (λ q. c .before .before .before .before .if4 .left (e .before .tag .ensures ∙ q))) refl (sym (c .before .before .before .fetches .ensures) ∙ c .before .before .if6 .taken)
+    (sym (c .before .names-open .ensures) ∙ c .if7 .left))
+
+returns-8 : tie.Need-returns-8
+returns-8 c =
+    let h = c .before .before .before in
+    let e = h .before .before .before .before in
+    let a = e .before .before .args in
+    sym
+    (turn-by (a .state) (openOf (a .streams)) (a .request) (ne-eqb _ _ (λ q. e .if1 .left (e .before .tag .ensures ∙ q)))
+    (sym (h .before .before .before .is-ignored .ensures) ∙ h .before .before .if2 .left) (sym (h .before .hands-over .ensures) ∙ not-false _ (h .if3 .left))
+    (ne-eqb _ _ (λ q. c .before .before .if4 .left (e .before .tag .ensures ∙ q))) refl (sym (c .before .fetches .ensures) ∙ c .if6 .left) refl)
+
+pub turn-of-spec : {M : Type 1} → statement M
+turn-of-spec =
+    tie.close
+    (tie.spec
+    tag-requires
+    returns
+    is-ignored-requires
+    returns-2
+    hands-over-requires
+    returns-3
+    is-full-requires
+    returns-4
+    returns-5
+    fetches-requires
+    names-open-requires
+    returns-6
+    returns-7
+    returns-8)

@@ -1,0 +1,10 @@
+pub mod Requests
+pub mod Appendix
+pub mod Table
+pub mod Rules
+pub mod Answers
+pub mod Record
+pub mod Parts
+pub mod Claim
+pub mod Cases
+pub mod KeepAlive

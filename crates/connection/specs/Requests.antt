@@ -1,0 +1,137 @@
+-- What a state and a request are, apart from the record: names, tests, and the ranges of n and qid. Document 01, "Requests"; 003's names.
+-- Assumes nothing.
+use Prim.Native.Nat.{ℕ, _-_}
+use mathlib.Core.Bool.{Bool, true, false, not, _&&_, _||_}
+use mathlib.Core.List.{List, [], _∷_}
+use lib.Dec.{eqb, leb}
+use lib.IntN.{ℤ, pos, negsuc}
+use Rattle.connection.specs.declared.record.State.{State}
+use Rattle.connection.specs.declared.record.State.the-variants.{Connected, Ready, Streaming, TxReady, TxStreaming, Failed, Interrupted, Defunct}
+use Rattle.connection.specs.declared.record.Request.{Request}
+use Rattle.connection.specs.declared.record.Request.the-variants.{Hello, Goodbye, Reset, Run, Begin, Commit, Rollback, Discard, Pull}
+use Rattle.connection.specs.declared.requests.Asked.{Asked}
+use Rattle.connection.specs.declared.requests.Asked.the-variants.{Latest, Stream}
+
+-- the requests, as the papers name them
+pub data Kind : Type 0 where
+  HELLO : Kind
+  GOODBYE : Kind
+  RESET : Kind
+  RUN : Kind
+  BEGIN : Kind
+  COMMIT : Kind
+  ROLLBACK : Kind
+  DISCARD : Kind
+  PULL : Kind
+
+abbrev pub kindOf : Request → Kind
+kindOf Hello = HELLO
+kindOf Goodbye = GOODBYE
+kindOf Reset = RESET
+kindOf Run = RUN
+kindOf Begin = BEGIN
+kindOf Commit = COMMIT
+kindOf Rollback = ROLLBACK
+kindOf (Discard n qid) = DISCARD
+kindOf (Pull n qid) = PULL
+
+-- a request's tag: document 01, "Requests"
+abbrev pub tag : Kind → ℕ
+tag HELLO = 1
+tag GOODBYE = 2
+tag RESET = 15
+tag RUN = 16
+tag BEGIN = 17
+tag COMMIT = 18
+tag ROLLBACK = 19
+tag DISCARD = 47
+tag PULL = 63
+
+-- the states in 003's order, to tell them apart
+abbrev pub rank : State → ℕ
+rank Connected = 0
+rank Ready = 1
+rank Streaming = 2
+rank TxReady = 3
+rank TxStreaming = 4
+rank Failed = 5
+rank Interrupted = 6
+rank Defunct = 7
+
+abbrev pub inState : State → State → Bool
+inState s r = eqb (rank s) (rank r)
+
+abbrev pub inTransaction : State → Bool
+inTransaction s = inState s TxReady || inState s TxStreaming
+
+abbrev pub isKind : Kind → Kind → Bool
+isKind k j = eqb (tag k) (tag j)
+
+abbrev pub is : Kind → Request → Bool
+is k r = isKind (kindOf r) k
+
+-- DISCARD and PULL fetch from a stream
+abbrev pub fetching : Kind → Bool
+fetching HELLO = false
+fetching GOODBYE = false
+fetching RESET = false
+fetching RUN = false
+fetching BEGIN = false
+fetching COMMIT = false
+fetching ROLLBACK = false
+fetching DISCARD = true
+fetching PULL = true
+
+abbrev pub fetches : Request → Bool
+fetches r = fetching (kindOf r)
+
+-- -1, or `least` or more
+abbrev pub minusOneOr : ℕ → ℤ → Bool
+minusOneOr least (pos m) = leb least m
+minusOneOr least (negsuc m) = eqb m 0
+
+-- n is -1 or at least 1, and qid -1 or at least 0
+abbrev pub inRange : Request → Bool
+inRange Hello = true
+inRange Goodbye = true
+inRange Reset = true
+inRange Run = true
+inRange Begin = true
+inRange Commit = true
+inRange Rollback = true
+inRange (Discard n qid) = minusOneOr 1 n && minusOneOr 0 qid
+inRange (Pull n qid) = minusOneOr 1 n && minusOneOr 0 qid
+
+abbrev pub outOfRange : Request → Bool
+outOfRange r = not (inRange r)
+
+-- the stream that a qid names: -1 means the latest successful RUN of this transaction
+abbrev pub askedBy : ℤ → Asked
+askedBy (pos q) = Stream q
+askedBy (negsuc q) = Latest
+
+-- the stream that DISCARD or PULL is for
+abbrev pub asked : Request → Asked
+asked Hello = Latest
+asked Goodbye = Latest
+asked Reset = Latest
+asked Run = Latest
+asked Begin = Latest
+asked Commit = Latest
+asked Rollback = Latest
+asked (Discard n qid) = askedBy qid
+asked (Pull n qid) = askedBy qid
+
+abbrev pub isLatest : Asked → Bool
+isLatest Latest = true
+isLatest (Stream q) = false
+
+-- its number, by the number that the next stream gets
+abbrev pub named : Asked → ℕ → ℕ
+named Latest next = next - 1
+named (Stream q) next = q
+
+-- one of a list passes a test
+abbrev pub any : {A : Type 0} → (A → Bool) → List A → Bool
+any f [] = false
+any f (x ∷ xs) = f x || any f xs

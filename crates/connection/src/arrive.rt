@@ -1,0 +1,109 @@
+// Arrive: document 01, "Connection record".
+use super::answers::AfterArrive;
+use super::answers::Arrival;
+use super::changes;
+use super::queue;
+use super::record::Connection;
+use super::record::Control;
+use super::record::Queue;
+use super::record::Request;
+use super::record::State;
+use super::record::Streams;
+use super::requests;
+use super::rules;
+use super::states;
+use super::streams;
+use refusal::Refusal;
+ghost use mathlib.Core.Path.{_≡_};
+ghost use Prim.Native.Nat.{_<_};
+ghost use Rattle.refusal.specs.Answer.{result};
+ghost use Rattle.connection.specs.declared.answers.Arrival.the-variants.{Queued};
+ghost use Rattle.connection.specs.Table.{accept as acceptT};
+ghost use Rattle.connection.specs.Record.{joined, kept, carried, toldArrive, arriveOf};
+ghost use Rattle.connection.specs.Parts.{Accepting, enqueuedIn};
+
+fn answer(control: Control, queue: Queue, answer: Arrival) -> AfterArrive
+    ensures { λ r. ⌜ r ≡ record { connection = joined control queue; answer = answer } ⌝ }
+{
+    let connection = Connection {
+        control: control,
+        queue: queue,
+    };
+    AfterArrive {
+        connection: connection,
+        answer: answer,
+    }
+}
+
+// A request goes to the end of the queue.
+fn enqueue(
+    control: Control,
+    queue: Queue,
+    state: State,
+    streams: Streams,
+    request: Request,
+) -> AfterArrive
+    requires { ⌜ (control .waiting < 32) × (control .accepted < 4294967295) ⌝ }
+    ensures { λ r. ⌜ r ≡ record { connection = enqueuedIn control queue state streams request; answer = Queued } ⌝ }
+{
+    let longer = queue::put(queue, control.waiting, request);
+    answer(
+        changes::counted(control, state, streams),
+        longer,
+        Arrival::Queued,
+    )
+}
+
+// A request is accepted. RESET interrupts at once; before HELLO it closes.
+fn accept(control: Control, queue: Queue, request: Request) -> AfterArrive
+    requires { ⌜ Accepting control ⌝ }
+    ensures { λ r. ⌜ toldArrive r ≡ carried (joined control queue) (result (acceptT (kept (joined control queue)) request)) ⌝ }
+{
+    let state = control.state;
+    let streams = control.streams;
+    if requests::tag(request) == requests::RESET {
+        if states::is_in(state, State::Connected) {
+            let counted = changes::counted(control, state, streams);
+            return answer(changes::defunct(counted), queue, Arrival::Closed);
+        }
+        let emptied = streams::none_open(streams);
+        return enqueue(control, queue, State::Interrupted, emptied, request);
+    }
+    enqueue(control, queue, state, streams, request)
+}
+
+// The same on the parts of a record.
+pub fn step(control: Control, queue: Queue, request: Request) -> AfterArrive
+    ensures { λ r. ⌜ toldArrive r ≡ arriveOf (joined control queue) request ⌝ }
+{
+    if !rules::keeps_rules(control, queue) {
+        return answer(control, queue, Arrival::Refused(Refusal::InvalidRecord));
+    }
+    let state = control.state;
+    if states::is_in(state, State::Defunct) {
+        return answer(control, queue, Arrival::Refused(Refusal::ConnectionDefunct));
+    }
+    if !requests::is_in_range(request) {
+        return answer(control, queue, Arrival::Refused(Refusal::InvalidField));
+    }
+    if 4294967295 <= control.accepted {
+        return answer(
+            control,
+            queue,
+            Arrival::Refused(Refusal::RequestLimitReached),
+        );
+    }
+    if 32 <= control.waiting {
+        return answer(control, queue, Arrival::Refused(Refusal::QueueFull));
+    }
+    accept(control, queue, request)
+}
+
+// A request has come.
+pub fn arrive(connection: Connection, request: Request) -> AfterArrive
+    ensures { λ r. ⌜ toldArrive r ≡ arriveOf connection request ⌝ }
+{
+    let control = connection.control;
+    let queue = connection.queue;
+    step(control, queue, request)
+}

@@ -1,0 +1,144 @@
+// The standing rules of document 01, "Connection record". Each call checks them first.
+use super::queue;
+use super::record::Control;
+use super::record::Queue;
+use super::record::Request;
+use super::record::State;
+use super::record::Streams;
+use super::states;
+use super::streams;
+use super::turn;
+use super::turn::Turn;
+ghost use mathlib.Core.Path.{_≡_};
+ghost use mathlib.Core.Bool.{Bool·beq};
+ghost use Prim.Native.Nat.{_≤_};
+ghost use Rattle.connection.specs.Requests.{kindOf};
+ghost use Rattle.connection.specs.Rules.{works, isHanded, mayBeInFlight, flightRule, countsRule, stateRules};
+ghost use Rattle.connection.specs.Record.{joined, openOf, front, kept, keepsRules};
+
+// Whether both hold, or neither.
+fn are_alike(a: bool, b: bool) -> bool
+    ensures { λ r. ⌜ r ≡ Bool·beq a b ⌝ }
+{
+    if a {
+        return b;
+    }
+    !b
+}
+
+// Whether a request is of a kind that some state hands over, except HELLO.
+fn is_work(request: Request) -> bool
+    ensures { λ r. ⌜ r ≡ works (kindOf request) ⌝ }
+{
+    match request {
+        Request::Hello => false,
+        Request::Goodbye => false,
+        Request::Reset => false,
+        Request::Run => true,
+        Request::Begin => true,
+        Request::Commit => true,
+        Request::Rollback => true,
+        Request::Discard { n: _, qid: _ } => true,
+        Request::Pull { n: _, qid: _ } => true,
+    }
+}
+
+fn is_handed(turn: Turn) -> bool
+    ensures { λ r. ⌜ r ≡ isHanded turn ⌝ }
+{
+    match turn {
+        Turn::Closes => false,
+        Turn::Resets => false,
+        Turn::Ignored => false,
+        Turn::Handed => true,
+        Turn::Full => false,
+        Turn::Unknown => false,
+    }
+}
+
+// Whether the first request can be in flight.
+fn may_be_in_flight(state: State, streams: Streams, request: Request) -> bool
+    requires { ⌜ streams .count ≤ 8 ⌝ }
+    ensures { λ r. ⌜ r ≡ mayBeInFlight state (openOf streams) request ⌝ }
+{
+    if states::is_in(state, State::Interrupted) {
+        return is_work(request);
+    }
+    let turn = turn::turn_of(state, streams, request);
+    is_handed(turn)
+}
+
+// In flight only the first waiting, and only where it may be.
+fn flight_holds(control: Control, queue: Queue) -> bool
+    requires { ⌜ (control .waiting ≤ 32) × (control .streams .count ≤ 8) ⌝ }
+    ensures { λ r. ⌜ r ≡ flightRule (control .«in_flight») (control .state) (openOf (control .streams)) (front queue (control .waiting)) ⌝ }
+{
+    if !control.in_flight {
+        return true;
+    }
+    if control.waiting == 0 {
+        return false;
+    }
+    let first = queue::first(queue);
+    let state = control.state;
+    let streams = control.streams;
+    may_be_in_flight(state, streams, first)
+}
+
+// Outside DEFUNCT accepted = sent + waiting.
+fn counts_hold(state: State, waiting: usize, accepted: u64, sent: u64) -> bool
+    ensures { λ r. ⌜ r ≡ countsRule state waiting accepted sent ⌝ }
+{
+    if 4294967295 < accepted {
+        return false;
+    }
+    if accepted < sent {
+        return false;
+    }
+    if states::is_in(state, State::Defunct) {
+        return waiting == 0;
+    }
+    accepted - sent == waiting as u64
+}
+
+// The rules that tie the state to the streams, the queue and the counts.
+fn state_holds(control: Control, queue: Queue) -> bool
+    requires { ⌜ (control .waiting ≤ 32) × (control .streams .count ≤ 8) ⌝ }
+    ensures { λ r. ⌜ r ≡ stateRules (kept (joined control queue)) ⌝ }
+{
+    let state = control.state;
+    let streams = control.streams;
+    if !are_alike(states::is_in(state, State::TxStreaming), 1 <= streams.count) {
+        return false;
+    }
+    if !are_alike(
+        states::is_in(state, State::Interrupted),
+        queue::has_reset(queue, 0, control.waiting),
+    ) {
+        return false;
+    }
+    if !flight_holds(control, queue) {
+        return false;
+    }
+    counts_hold(state, control.waiting, control.accepted, control.sent)
+}
+
+// Whether a record keeps the standing rules.
+pub fn keeps_rules(control: Control, queue: Queue) -> bool
+    ensures { λ r. ⌜ r ≡ keepsRules (joined control queue) ⌝ }
+{
+    let streams = control.streams;
+    if 32 < control.waiting {
+        return false;
+    }
+    if 8 < streams.count {
+        return false;
+    }
+    if queue::has_wrong(queue, control.waiting) {
+        return false;
+    }
+    if !streams::is_valid(streams) {
+        return false;
+    }
+    state_holds(control, queue)
+}

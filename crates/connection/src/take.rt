@@ -1,0 +1,138 @@
+// Take: document 01, "Connection record".
+use super::answers::AfterTake;
+use super::answers::Failure;
+use super::answers::Summary;
+use super::answers::Taken;
+use super::changes;
+use super::queue;
+use super::record::Connection;
+use super::record::Control;
+use super::record::Queue;
+use super::record::State;
+use super::record::Streams;
+use super::rules;
+use super::states;
+use super::streams;
+use super::turn;
+use super::turn::Turn;
+use refusal::Refusal;
+ghost use mathlib.Core.Path.{_≡_};
+ghost use Prim.Native.Nat.{_+_, _-_};
+ghost use Rattle.refusal.specs.Answer.{result};
+ghost use Rattle.connection.specs.declared.answers.Taken.the-variants.{Answered};
+ghost use Rattle.connection.specs.Table.{takeFirst};
+ghost use Rattle.connection.specs.Record.{joined, front, kept, carried, toldTake, takeOf};
+ghost use Rattle.connection.specs.Parts.{Answering, answeredIn};
+
+fn answer(control: Control, queue: Queue, answer: Taken) -> AfterTake
+    ensures { λ r. ⌜ r ≡ record { connection = joined control queue; answer = answer } ⌝ }
+{
+    let connection = Connection {
+        control: control,
+        queue: queue,
+    };
+    AfterTake {
+        connection: connection,
+        answer: answer,
+    }
+}
+
+// The first request gets its summary, and waits no more.
+fn sum_up(
+    control: Control,
+    queue: Queue,
+    state: State,
+    streams: Streams,
+    summary: Summary,
+) -> AfterTake
+    requires { ⌜ Answering control ⌝ }
+    ensures { λ r. ⌜ r ≡ record { connection = answeredIn control queue state streams (control .waiting - 1); answer = Answered summary (control .sent + 1) } ⌝ }
+{
+    let connection = changes::answered(control, queue, state, streams, control.waiting - 1);
+    let answer = Taken::Answered {
+        summary: summary,
+        number: control.sent + 1,
+    };
+    AfterTake {
+        connection: connection,
+        answer: answer,
+    }
+}
+
+// The turn of the first request.
+fn take_first(control: Control, queue: Queue) -> AfterTake
+    requires { ⌜ Answering control ⌝ }
+    ensures { λ r. ⌜ toldTake r ≡ carried (joined control queue) (result (takeFirst (kept (joined control queue)) (front queue (control .waiting)))) ⌝ }
+{
+    let state = control.state;
+    let streams = control.streams;
+    let first = queue::first(queue);
+    let turn = turn::turn_of(state, streams, first);
+    let emptied = streams::none_open(streams);
+    match turn {
+        Turn::Closes => answer(changes::defunct(control), queue, Taken::Closed),
+        Turn::Resets => {
+            if queue::has_reset(queue, 1, control.waiting) {
+                return sum_up(
+                    control,
+                    queue,
+                    State::Interrupted,
+                    emptied,
+                    Summary::Success,
+                );
+            }
+            sum_up(control, queue, State::Ready, emptied, Summary::Success)
+        }
+        Turn::Ignored => sum_up(control, queue, state, streams, Summary::Ignored),
+        Turn::Handed => {
+            let handed = Taken::Handed {
+                request: first,
+                number: control.sent + 1,
+            };
+            answer(changes::handed(control), queue, handed)
+        }
+        Turn::Full => sum_up(
+            control,
+            queue,
+            State::Failed,
+            emptied,
+            Summary::Failure(Failure::StreamsFull),
+        ),
+        Turn::Unknown => sum_up(
+            control,
+            queue,
+            State::Failed,
+            emptied,
+            Summary::Failure(Failure::StreamUnknown),
+        ),
+    }
+}
+
+// The same on the parts of a record.
+pub fn step(control: Control, queue: Queue) -> AfterTake
+    ensures { λ r. ⌜ toldTake r ≡ takeOf (joined control queue) ⌝ }
+{
+    if !rules::keeps_rules(control, queue) {
+        return answer(control, queue, Taken::Refused(Refusal::InvalidRecord));
+    }
+    let state = control.state;
+    if states::is_in(state, State::Defunct) {
+        return answer(control, queue, Taken::Refused(Refusal::ConnectionDefunct));
+    }
+    if control.in_flight {
+        return answer(control, queue, Taken::Idle);
+    }
+    if control.waiting == 0 {
+        return answer(control, queue, Taken::Idle);
+    }
+    take_first(control, queue)
+}
+
+// Looks at the first request that waits, and answers it or hands it over.
+pub fn take(connection: Connection) -> AfterTake
+    ensures { λ r. ⌜ toldTake r ≡ takeOf connection ⌝ }
+{
+    let control = connection.control;
+    let queue = connection.queue;
+    step(control, queue)
+}

@@ -1,0 +1,16 @@
+-- `hex::digit_of` meets its contract: the table has the digits by their values. Assumes nothing.
+use borrow.Author.Needs.{needs}
+use mathlib.Core.Path.{refl}
+use Rattle.hex.specs.Hex.{digitOf}
+use Rattle.hex.proofs.digit_of.Statement.{statement}
+use Rattle.hex.proofs.digit_of.Tie as tie
+
+array-read-result : tie.Need-array-read-result
+array-read-result c = search needs
+
+returns : tie.Need-returns
+unfolding digitOf
+returns c = refl
+
+pub digit-of-spec : {M : Type 1} → statement M
+digit-of-spec = tie.close (tie.spec array-read-result returns)

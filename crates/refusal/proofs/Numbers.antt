@@ -1,0 +1,45 @@
+-- The number tells the refusal. Assumes nothing.
+use mathlib.Core.Path.{_≡_, refl, sym, ap, _∙_}
+use mathlib.Core.List.{List, [], _∷_}
+use Prim.Native.Nat.{ℕ, _-_}
+use lib.ListN.{getD}
+use Rattle.refusal.specs.Numbers.{numberOf, Distinct}
+use Rattle.refusal.specs.declared.Refusal.{Refusal}
+use Rattle.refusal.specs.declared.Refusal.the-variants.{HandshakeTruncated, WrongPreamble, NoCommonVersion, FrameIncomplete, EmptyMessage, TooLong, ValueTruncated, ReservedMarker, TooDeep, InvalidUtf8, KeyNotString, DuplicateKey, TrailingBytes, UnknownRequest, WrongFieldCount, InvalidField, QueueFull, ConnectionDefunct, UnexpectedReport, RequestLimitReached, NoRoom, InvalidChunking, InvalidLine, InvalidRecord}
+
+-- the refusals in the order of their numbers
+refusals : List Refusal
+refusals = HandshakeTruncated ∷ WrongPreamble ∷ NoCommonVersion ∷ FrameIncomplete ∷ EmptyMessage ∷ TooLong ∷ ValueTruncated ∷ ReservedMarker ∷ TooDeep ∷ InvalidUtf8 ∷ KeyNotString ∷ DuplicateKey ∷ TrailingBytes ∷ UnknownRequest ∷ WrongFieldCount ∷ InvalidField ∷ QueueFull ∷ ConnectionDefunct ∷ UnexpectedReport ∷ RequestLimitReached ∷ NoRoom ∷ InvalidChunking ∷ InvalidLine ∷ InvalidRecord ∷ []
+
+numbered : ℕ → Refusal
+numbered n = getD refusals (n - 1) InvalidRecord
+
+back : (r : Refusal) → numbered (numberOf r) ≡ r
+unfolding numbered refusals
+back HandshakeTruncated = refl
+back WrongPreamble = refl
+back NoCommonVersion = refl
+back FrameIncomplete = refl
+back EmptyMessage = refl
+back TooLong = refl
+back ValueTruncated = refl
+back ReservedMarker = refl
+back TooDeep = refl
+back InvalidUtf8 = refl
+back KeyNotString = refl
+back DuplicateKey = refl
+back TrailingBytes = refl
+back UnknownRequest = refl
+back WrongFieldCount = refl
+back InvalidField = refl
+back QueueFull = refl
+back ConnectionDefunct = refl
+back UnexpectedReport = refl
+back RequestLimitReached = refl
+back NoRoom = refl
+back InvalidChunking = refl
+back InvalidLine = refl
+back InvalidRecord = refl
+
+pub distinct : Distinct
+distinct a b e = sym (back a) ∙ ap numbered e ∙ back b

@@ -1,0 +1,97 @@
+-- Laws of UTF-8 as one sequence after another: what the check's loop and the layers above go by. Assumes nothing.
+use mathlib.Core.Path.{_≡_, refl, sym, ap, _∙_}
+use mathlib.Core.Bool.{true, false, not, and-eq-true-iff}
+use mathlib.Core.List.{List, [], _∷_, _++_}
+use Prim.Native.Nat.{ℕ, zero, suc, _+_, _-_, _≤_, _<_}
+use native.Mathlib.Nat.{not-suc-le-zero, le-of-suc-le-suc}
+use native.Mathlib.Omega.{arith}
+use borrow.Author.Tests.{eqb-false, ne-eqb, not-true}
+use lib.Dec.{eqb}
+use lib.ListN.{length, getD, drop, length-drop, drop-of-length-le}
+use lib.Seq.{drop-drop}
+use Rattle.utf8.specs.Utf8.{sequence, sequencesFrom, utf8}
+use Rattle.utf8.proofs.Sequences.{at-place, sequence-ascii, sequence-le, sequence-append}
+
+-- no bytes
+pub utf8-nil : utf8 [] ≡ true
+unfolding utf8 sequencesFrom
+utf8-nil = refl
+
+-- a fault
+pub utf8-fault : (lead : ℕ) (s : List ℕ) → sequence lead s ≡ 0 → utf8 (lead ∷ s) ≡ false
+unfolding utf8 sequencesFrom
+utf8-fault lead s e = rw e
+
+-- a sequence: what follows it decides
+pub utf8-cons : (lead : ℕ) (s : List ℕ) → (sequence lead s ≡ 0 → ⊥) → utf8 (lead ∷ s) ≡ utf8 (drop (sequence lead s - 1) s)
+unfolding utf8 sequencesFrom
+utf8-cons lead s h = rw (ne-eqb (sequence lead s) 0 h) (skipped (sequence lead s - 1) s)
+  where
+    skipped : (skip : ℕ) (t : List ℕ) → sequencesFrom skip t ≡ utf8 (drop skip t)
+    skipped zero [] = refl
+    skipped zero (b ∷ t) = refl
+    skipped (suc skip) [] = refl
+    skipped (suc skip) (b ∷ t) = skipped skip t
+
+-- UTF-8: what follows it decides
+pub utf8-append : (s t : List ℕ) → utf8 s ≡ true → utf8 (s ++ t) ≡ utf8 t
+unfolding utf8 sequencesFrom
+utf8-append s t e = from 0 s (omega arith) e
+  where
+    from : (skip : ℕ) (r : List ℕ) → skip ≤ length r → sequencesFrom skip r ≡ true → sequencesFrom skip (r ++ t) ≡ utf8 t
+    from zero [] h e = refl
+    from (suc skip) [] h e = absurd (not-suc-le-zero h)
+    from (suc skip) (b ∷ r) h e = from skip r (le-of-suc-le-suc h) e
+    from zero (lead ∷ r) h e =
+        let n : ℕ = sequence lead r in
+        let both = and-eq-true-iff (not (eqb n 0)) (sequencesFrom (n - 1) r) .0 e in
+        rw (sequence-append lead r t (eqb-false n 0 (not-true (eqb n 0) (both .0))), both .0)
+        (from (n - 1) r (omega (arith, sequence-le lead r)) (both .1))
+
+-- an ASCII byte: what follows it decides
+pub utf8-ascii-cons : (b : ℕ) (s : List ℕ) → b < 0x80 → utf8 (b ∷ s) ≡ utf8 s
+utf8-ascii-cons b s h =
+    let e : sequence b s ≡ 1 = sequence-ascii b s h in
+    utf8-cons b s (omega arith) ∙ ap (λ (n : ℕ). utf8 (drop (n - 1) s)) e
+
+-- ASCII is UTF-8
+pub utf8-ascii : (s : List ℕ) → ((i : ℕ) → i < length s → getD s i 0 < 0x80) → utf8 s ≡ true
+utf8-ascii [] h = utf8-nil
+utf8-ascii (b ∷ s) h = utf8-ascii-cons b s (h 0 (omega arith)) ∙ utf8-ascii s (λ i l. h (suc i) (omega arith))
+
+-- ---- the check's loop
+
+-- up to a place there are whole sequences: what is left decides as the whole does
+pub record Checked (s : List ℕ) (at : ℕ) : Type 0 where
+  pub within : at ≤ length s
+  pub decides : utf8 (drop at s) ≡ utf8 s
+
+-- at the start
+pub checked : (s : List ℕ) → Checked s 0
+checked s = record { within = omega arith; decides = refl }
+
+module _ {s : List ℕ} {at : ℕ} (r : Checked s at) where
+  -- nothing is left
+  pub all-checked : length s ≤ at → true ≡ utf8 s
+  all-checked h = sym (ap utf8 (drop-of-length-le s h) ∙ utf8-nil) ∙ r .decides
+
+  -- the next sequence has n bytes
+  module _ (h : at < length s) (n : ℕ) (e : n ≡ sequence (getD s at 0) (drop (at + 1) s)) where
+    pub at-fault : n ≡ 0 → false ≡ utf8 s
+    at-fault z = sym (ap utf8 (at-place s at h) ∙ utf8-fault (getD s at 0) (drop (at + 1) s) (sym e ∙ z)) ∙ r .decides
+
+    pub past-sequence : (n ≡ 0 → ⊥) → Checked s (at + n)
+    past-sequence p =
+        let sum : at + 1 + (n - 1) ≡ at + n = omega arith in
+        record {
+          within = omega (arith, sequence-le (getD s at 0) (drop (at + 1) s), length-drop (at + 1) s);
+          decides =
+              sym (ap utf8 (at-place s at h) ∙ utf8-cons (getD s at 0) (drop (at + 1) s) (λ z. p (e ∙ z))
+              ∙ ap (λ (m : ℕ). utf8 (drop (m - 1) (drop (at + 1) s))) (sym e) ∙ ap utf8 (drop-drop (n - 1) (at + 1) s)
+              ∙ ap (λ (m : ℕ). utf8 (drop m s)) sum)
+              ∙ r .decides;
+        }
+
+  -- the next byte is ASCII
+  pub past-ascii : at < length s → getD s at 0 < 0x80 → Checked s (at + 1)
+  past-ascii h l = past-sequence h 1 (sym (sequence-ascii (getD s at 0) (drop (at + 1) s) l)) (omega arith)
