@@ -6,3 +6,9 @@ pub mod Scratch
 pub mod Steps
 pub mod Answers
 pub mod Passing
+pub mod Packing
+pub mod Here
+pub mod Headers
+pub mod RoundTrip
+pub mod Forms
+pub mod Shortest

@@ -5,3 +5,6 @@ pub mod Keys
 pub mod Reading
 pub mod Walk
 pub mod Cases
+pub mod Packing
+pub mod RoundTrip
+pub mod Shortest
