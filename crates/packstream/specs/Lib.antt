@@ -5,4 +5,5 @@ pub mod Keys
 pub mod Reading
 pub mod Walk
 pub mod Placement
+pub mod Embedding
 pub mod Cases
