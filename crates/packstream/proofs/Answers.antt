@@ -4,15 +4,16 @@ use mathlib.Core.Bool.{Bool, true, false, cond}
 use mathlib.Core.List.{List}
 use Prim.Native.Nat.{ℕ, _≤_, _<_}
 use native.Mathlib.Omega.{arith}
-use borrow.Author.Tests.{lt-ltb, le-ltb, eq-eqb, ne-eqb}
+use borrow.Author.Tests.{lt-ltb, le-ltb, ltb-true, ltb-false, eq-eqb, ne-eqb, eqb-true}
+use lib.Dec.{ltb, eqb}
 use lib.ListN.{length}
 use Rattle.refusal.specs.Answer.{Answer, result, refused}
-use Rattle.refusal.specs.declared.Refusal.the-variants.{TooLong}
+use Rattle.refusal.specs.declared.Refusal.the-variants.{TooLong, TrailingBytes}
 use Rattle.packstream.specs.Value.{Value}
 use Rattle.packstream.specs.Decode.{Parse, parsed, failed, valueAt, valueIn, whole, messageOf, answerOf, decode, mostBytes, mostOpen}
 use Rattle.packstream.specs.Reading.{readingOf, Found, foundAt, told, tellMessage, tellValue}
+use Rattle.packstream.specs.Placement.{Reads}
 use Rattle.packstream.specs.declared.read.Head.{Head}
-use Rattle.packstream.specs.declared.read.Reading.{Reading}
 
 pub told-reading : (g : Parse Value) → told (readingOf g) ≡ tellValue g
 told-reading (parsed v end) = refl
@@ -60,3 +61,63 @@ module _ (s : List ℕ) where
   pub message-is : answerOf (whole (length s) (valueIn s mostOpen 0)) ≡ decode s
   unfolding messageOf
   message-is = refl
+
+-- ---- for callers: what the answers tell of the message, and what the message tells of its bytes
+module _ (s : List ℕ) where
+  -- a value was told: it is the message's, with its head, and ends where the message does
+  pub told-value : (f : Found) → result f ≡ tellMessage s (decode s) → (v : Value) × (decode s ≡ result v) × (f ≡ foundAt (length s) v)
+  told-value f e = by (decode s) refl e
+    where
+      by : (a : Answer Value) → decode s ≡ a → result f ≡ tellMessage s a → (v : Value) × (decode s ≡ result v) × (f ≡ foundAt (length s) v)
+      by (result v) g e = (v, g, cc e)
+      by (refused number place) g e = let z : _≡_ {A = ℕ} 0 1 = cc e in absurd (clash z)
+
+  -- a refusal was told: it is the message's
+  pub told-refusal : (number place : ℕ) → refused number place ≡ tellMessage s (decode s) → decode s ≡ refused number place
+  told-refusal number place e = by (decode s) refl e
+    where
+      by : (a : Answer Value) → decode s ≡ a → refused number place ≡ tellMessage s a → decode s ≡ refused number place
+      by (result v) g e = let z : _≡_ {A = ℕ} 0 1 = cc e in absurd (clash z)
+      by (refused n p) g e = let a : number ≡ n = cc e in let b : place ≡ p = cc e in rw (a, b) g
+
+  -- a message is not too long, and its value is read from its first byte to its last
+  pub decode-reads : (v : Value) → decode s ≡ result v → (length s ≤ mostBytes) × Reads s mostOpen 0 v (length s)
+  unfolding messageOf valueIn
+  decode-reads v e = by-length (ltb mostBytes (length s)) refl e
+    where
+      by-end : (g : Parse Value) → answerOf (whole (length s) g) ≡ result v → g ≡ parsed v (length s)
+      by-end (failed why place) e = let z : _≡_ {A = ℕ} 0 1 = cc e in absurd (clash z)
+      by-end (parsed w end) e = by (eqb end (length s)) refl e
+        where
+          by : (t : Bool) → eqb end (length s) ≡ t → answerOf (cond t (parsed w end) (failed TrailingBytes end)) ≡ result v → parsed w end ≡ parsed v (length s)
+          by true f e = let a : w ≡ v = cc e in rw (a, eqb-true end (length s) f)
+          by false f e = let z : _≡_ {A = ℕ} 0 1 = cc e in absurd (clash z)
+
+      by-length : (t : Bool) → ltb mostBytes (length s) ≡ t → answerOf (whole (length s) (cond t (failed TooLong 0) (valueAt s mostOpen 0))) ≡ result v
+          → (length s ≤ mostBytes) × Reads s mostOpen 0 v (length s)
+      by-length true f e = let z : _≡_ {A = ℕ} 0 1 = cc e in absurd (clash z)
+      by-length false f e = (ltb-false mostBytes (length s) f, by-end (valueAt s mostOpen 0) e)
+
+  -- and back
+  pub reads-decode : length s ≤ mostBytes → (v : Value) → Reads s mostOpen 0 v (length s) → decode s ≡ result v
+  unfolding messageOf valueIn
+  reads-decode h v e = rw (le-ltb mostBytes (length s) h, e, eq-eqb (length s) (length s) refl)
+
+-- a value was told that lies at an offset: it is read there
+pub told-reads : (s : List ℕ) (depth at : ℕ) (f : Found) → result f ≡ tellValue (valueIn s depth at)
+    → (v : Value) × Reads s depth at v (f .end) × (f ≡ foundAt (f .end) v)
+told-reads s depth at f e = by-length (ltb mostBytes (length s)) refl
+  where
+    by : (g : Parse Value) → valueAt s depth at ≡ g → result f ≡ tellValue g → (v : Value) × Reads s depth at v (f .end) × (f ≡ foundAt (f .end) v)
+    by (parsed v end) g e =
+        let a : f ≡ foundAt end v = cc e in
+        let b : end ≡ f .end = sym (ap (λ (x : Found). x .end) a) in
+        (v, g ∙ ap (parsed v) b, a ∙ ap (λ (n : ℕ). foundAt n v) b)
+    by (failed why place) g e = let z : _≡_ {A = ℕ} 0 1 = cc e in absurd (clash z)
+
+    by-length : (t : Bool) → ltb mostBytes (length s) ≡ t → (v : Value) × Reads s depth at v (f .end) × (f ≡ foundAt (f .end) v)
+    by-length true l =
+        let g : result f ≡ tellValue (failed TooLong 0) = e ∙ ap tellValue (sym (value-too-long s depth at (ltb-true mostBytes (length s) l))) in
+        let z : _≡_ {A = ℕ} 0 1 = cc g in absurd (clash z)
+    by-length false l =
+        by (valueAt s depth at) refl (e ∙ ap tellValue (sym (value-not-long s depth at (ltb-false mostBytes (length s) l))))

@@ -1,11 +1,11 @@
 -- Laws of extents: what the code's tests make of them, and what holds of every one. Assumes nothing.
 use mathlib.Core.Path.{_≡_, refl, sym, ap, _∙_, subst}
 use mathlib.Core.Logic.{inl, inr}
-use mathlib.Core.Bool.{Bool, true, false, not, cond, true≢false, false≢true}
+use mathlib.Core.Bool.{Bool, true, false, not, cond, false≢true}
 use mathlib.Core.List.{List, [], _∷_}
 use Prim.Native.Nat.{ℕ, zero, suc, _+_, _-_, _^_, _≤_, _<_}
 use native.Mathlib.Omega.{arith}
-use lib.Dec.{ltb, leb, eqb}
+use lib.Dec.{ltb, eqb}
 use lib.ListN.{length, getD}
 use borrow.Author.Tests.{lt-ltb, le-ltb, ltb-true, eq-eqb, ne-eqb, eqb-true, eqb-false}
 use denote.Enum.Declared.{tagOf}
@@ -31,7 +31,7 @@ use Rattle.packstream.specs.declared.marker.Kind.the-variants as K
 use Rattle.packstream.specs.declared.marker.Marker.{Marker}
 use Rattle.packstream.specs.declared.extent.Extent.{Extent}
 use Rattle.packstream.specs.declared.extent.Extent.the-variants as E
-use Rattle.packstream.proofs.Markers.{tellsSize, skip-one, SoundLeaf, sound-leaf, SoundContainer, sound-container}
+use Rattle.packstream.proofs.Markers.{tellsSize, SoundLeaf, sound-leaf, SoundContainer, sound-container}
 
 -- ---- sizes
 module _ (s : List ℕ) (at : ℕ) (m : Marker) where
@@ -204,6 +204,124 @@ module _ (s : List ℕ) (at : ℕ) where
       by (K.Leaf k) e =
           by-test (Inside s at) (isString k) _ _ (λ f. inside-leaf s at k (markerOf (getD s at 0)) (sound-leaf (getD s at 0) k e)) (λ f. tt)
       by (K.Container k) e = tt
+
+-- ---- what an extent tells, and what leads to it
+-- a marker is there, of this kind, and its size is told
+pub record Marked (s : List ℕ) (at : ℕ) (k : Kind) (m : Marker) (n : ℕ) : Type 0 where
+  pub there : at < length s
+  pub marker : m ≡ markerOf (getD s at 0)
+  pub kind : k ≡ m .kind
+  pub size : U.Number n ≡ sizeAt s at m
+
+pub data ExtentTells (s : List ℕ) (depth at : ℕ) : Extent → Type 0 where
+  leaf : (k : Leaf) (m : Marker) (n : ℕ) → Marked s at (K.Leaf k) m n → at + m .skip + m .width + n ≤ length s
+      → ExtentTells s depth at (E.Leaf k (at + m .skip + m .width) n)
+  container : (k : Container) (m : Marker) (n : ℕ) → Marked s at (K.Container k) m n → 1 ≤ depth
+      → ExtentTells s depth at (E.Container k (at + m .skip + m .width) n)
+  none : (why : Refusal) (place : ℕ) → ExtentTells s depth at (E.Refused why place)
+
+module _ (s : List ℕ) (depth at : ℕ) where
+  tells-leaf : (k : Leaf) (m : Marker) → at < length s → m ≡ markerOf (getD s at 0) → K.Leaf k ≡ m .kind → ExtentTells s depth at (leafExtent s at k m)
+  unfolding leafExtent
+  tells-leaf k m h e f =
+      by-size-found (ExtentTells s depth at) at (sizeAt s at m) _
+      (λ n g. by-test (ExtentTells s depth at) (reaches s (at + m .skip + m .width) n) _ _
+      (λ r. leaf k m n (record { there = h; marker = e; kind = f; size = g }) (reaches-le s (at + m .skip + m .width) n r))
+      (λ r. none ValueTruncated at))
+      (none ValueTruncated at)
+
+  tells-container : (k : Container) (m : Marker) → at < length s → m ≡ markerOf (getD s at 0) → K.Container k ≡ m .kind → 1 ≤ depth
+      → ExtentTells s depth at (containerExtent s at k m)
+  unfolding containerExtent
+  tells-container k m h e f d =
+      by-size-found (ExtentTells s depth at) at (sizeAt s at m) _
+      (λ n g. container k m n (record { there = h; marker = e; kind = f; size = g }) d)
+      (none ValueTruncated at)
+
+  pub extent-tells : ExtentTells s depth at (extentAt s depth at)
+  unfolding extentAt
+  extent-tells =
+      by-test (ExtentTells s depth at) (ltb at (length s)) _ _ (λ h. by (markerOf (getD s at 0) .kind) refl (ltb-true at (length s) h))
+      (λ h. none ValueTruncated (length s))
+    where
+      by : (k : Kind) → k ≡ markerOf (getD s at 0) .kind → at < length s
+          → ExtentTells s depth at (kindExtent s depth at (markerOf (getD s at 0)) k)
+      by K.Reserved e h = none ReservedMarker at
+      by (K.Leaf k) e h = tells-leaf k (markerOf (getD s at 0)) h refl e
+      by (K.Container k) e h =
+          by-test (ExtentTells s depth at) (eqb depth 0) _ _ (λ d. none TooDeep at)
+          (λ d. tells-container k (markerOf (getD s at 0)) h refl e (positive depth (eqb-false depth 0 d)))
+        where
+          positive : (n : ℕ) → (n ≡ 0 → ⊥) → 1 ≤ n
+          positive n f = omega arith
+
+  pub leaf-extent-is : (k : Leaf) (m : Marker) (n : ℕ) → Marked s at (K.Leaf k) m n → at + m .skip + m .width + n ≤ length s
+      → E.Leaf k (at + m .skip + m .width) n ≡ extentAt s depth at
+  leaf-extent-is k m n w h = leaf-there s at m k n (w .size) h ∙ by-kind s at (w .there) m (w .marker) depth (K.Leaf k) (w .kind)
+
+  pub container-extent-is : (k : Container) (m : Marker) (n : ℕ) → Marked s at (K.Container k) m n → 1 ≤ depth
+      → E.Container k (at + m .skip + m .width) n ≡ extentAt s depth at
+  container-extent-is k m n w d =
+      container-there s at m k n (w .size)
+      ∙ ap (λ (t : Bool). cond t (E.Refused TooDeep at) (containerExtent s at k m)) (sym (ne-eqb depth 0 (positive d)))
+      ∙ by-kind s at (w .there) m (w .marker) depth (K.Container k) (w .kind)
+    where
+      positive : 1 ≤ depth → depth ≡ 0 → ⊥
+      positive d e = omega arith
+
+clash : _≡_ {A = ℕ} 0 1 → ⊥
+clash e = omega arith
+
+string-only : (k : Leaf) → isString k ≡ true → k ≡ L.String
+string-only L.Null e = absurd (false≢true e)
+string-only L.Boolean e = absurd (false≢true e)
+string-only L.Integer e = absurd (false≢true e)
+string-only L.Float e = absurd (false≢true e)
+string-only L.Bytes e = absurd (false≢true e)
+string-only L.String e = refl
+
+-- a leaf's extent has the kind that its marker told
+module _ (j k : Leaf) (p n : ℕ) where
+  abbrev SameKind : Extent → Type 0
+  SameKind x = E.Leaf k p n ≡ x → k ≡ j
+
+  no-leaf : (why : Refusal) (place : ℕ) → SameKind (E.Refused why place)
+  no-leaf why place e = let z : _≡_ {A = ℕ} 0 1 = cc e in absurd (clash z)
+
+  leaf-kind : (s : List ℕ) (at : ℕ) (m : Marker) → SameKind (leafExtent s at j m)
+  unfolding leafExtent
+  leaf-kind s at m =
+      by-size-found SameKind at (sizeAt s at m) _
+      (λ q f. by-test SameKind (reaches s (at + m .skip + m .width) q) _ _ (λ r e. cc e) (λ r. no-leaf ValueTruncated at))
+      (no-leaf ValueTruncated at)
+
+-- ---- a key's extent is a String's
+module _ (s : List ℕ) (at : ℕ) where
+  pub key-extent-is : (m : Marker) (n : ℕ) → Marked s at (K.Leaf L.String) m n → at + m .skip + m .width + n ≤ length s
+      → E.Leaf L.String (at + m .skip + m .width) n ≡ keyExtentAt s at
+  key-extent-is m n w h = leaf-there s at m L.String n (w .size) h ∙ by-key-kind s at (w .there) m (w .marker) (K.Leaf L.String) (w .kind)
+
+  module _ (k : Leaf) (p n depth : ℕ) where
+    abbrev AsString : Extent → Type 0
+    AsString x = E.Leaf k p n ≡ x → E.Leaf L.String p n ≡ extentAt s depth at
+
+    not-refused : (why : Refusal) (place : ℕ) → AsString (E.Refused why place)
+    not-refused why place e = let z : _≡_ {A = ℕ} 0 1 = cc e in absurd (clash z)
+
+    as-string : at < length s → (m : Marker) → m ≡ markerOf (getD s at 0) → (j : Kind) → j ≡ m .kind → AsString (keyKindExtent s at m j)
+    as-string h m g K.Reserved f = not-refused ReservedMarker at
+    as-string h m g (K.Container j) f = not-refused KeyNotString at
+    as-string h m g (K.Leaf j) f =
+        by-test AsString (isString j) _ _
+        (λ i e. ap (λ (l : Leaf). E.Leaf l p n) (sym (leaf-kind j k p n s at m e ∙ string-only j i)) ∙ e ∙ by-kind s at h m g depth (K.Leaf j) f)
+        (λ i. not-refused KeyNotString at)
+
+    pub key-as-string : E.Leaf k p n ≡ keyExtentAt s at → E.Leaf L.String p n ≡ extentAt s depth at
+    unfolding keyExtentAt
+    key-as-string =
+        by-test AsString (ltb at (length s)) _ _
+        (λ h. as-string (ltb-true at (length s) h) (markerOf (getD s at 0)) refl (markerOf (getD s at 0) .kind) refl)
+        (λ h. not-refused ValueTruncated (length s))
 
 -- ---- with no room left, no extent is a container's
 abbrev pub Shut : Extent → Type 0

@@ -12,3 +12,7 @@ pub mod Headers
 pub mod RoundTrip
 pub mod Forms
 pub mod Shortest
+pub mod Offsets
+pub mod Embedding
+pub mod Placement
+pub mod Building

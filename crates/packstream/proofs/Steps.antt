@@ -11,7 +11,8 @@ use lib.ListN.{length, getD}
 use Rattle.slices.specs.Parts.{part}
 use Rattle.refusal.specs.declared.Refusal.{Refusal}
 use Rattle.refusal.specs.declared.Refusal.the-variants.{ValueTruncated, TooDeep, InvalidUtf8}
-use Rattle.packstream.specs.Value.{Value, list, dictionary, structure, Items, no-items, item, Entries, no-entries, entry, count, countEntries, first, firstEntry}
+use Rattle.packstream.specs.Value as Tree
+use Rattle.packstream.specs.Value.{Value, Items, no-items, item, Entries, no-entries, entry, count, countEntries, first, firstEntry}
 use Rattle.packstream.specs.Decode.{Parse, parsed, failed, andThen, mapped, extentAt, isText, leafValue, leafAt, KeyText, keyAt, items, entries, structureAt, containerAt, valueOf, valueAt}
 use Rattle.packstream.specs.Reading.{headOf, readingOf}
 use Rattle.packstream.specs.declared.marker.Leaf.{Leaf}
@@ -21,10 +22,11 @@ use Rattle.packstream.specs.declared.extent.Extent.{Extent}
 use Rattle.packstream.specs.declared.extent.Extent.the-variants as E
 use Rattle.packstream.specs.declared.read.Head.{Head}
 use Rattle.packstream.specs.declared.read.Head.the-variants as H
-use Rattle.packstream.specs.declared.read.Reading.{Reading}
 use Rattle.packstream.specs.declared.read.Reading.the-variants as R
 use Rattle.packstream.proofs.Extents.{Inside, extent-inside, key-inside, room-for}
-use Rattle.packstream.proofs.KeySearch.{KeyTells, new, none, key-tells}
+use Rattle.packstream.proofs.Leaves.{leaf-text, leaf-no-text}
+use Rattle.packstream.proofs.KeySearch as Keys
+use Rattle.packstream.proofs.KeySearch.{KeyTells, key-tells}
 
 -- ---- where a reading from p in a message of n bytes ends: past p; or at p or past it
 abbrev pub Past : {A : Type 0} → ℕ → ℕ → Parse A → Type 0
@@ -56,8 +58,8 @@ pub past-key : (s : List ℕ) (seen : List (List ℕ)) (at : ℕ) → Past (leng
 past-key s seen at = by (key-tells s seen at)
   where
     by : {g : Parse KeyText} → KeyTells s seen at g → Past (length s) at g
-    by (new k p n x f h) = let i = subst (Inside s at) (sym x) (key-inside s at) in (i .past, i .inside)
-    by (none why place) = tt
+    by (Keys.new k p n x f h) = let i = subst (Inside s at) (sym x) (key-inside s at) in (i .past, i .inside)
+    by (Keys.none why place) = tt
 
 module _ (n : ℕ) (f : ℕ → Parse Value) (past : (p : ℕ) → Past n p (f p)) where
   reaches-items : (m p : ℕ) → p ≤ n → Reaches n p (items f m p)
@@ -85,16 +87,16 @@ module _ (s : List ℕ) (f : ℕ → Parse Value) (past : (p : ℕ) → Past (le
       by : (t : Bool) → Past (length s) at (cond t (parsed (leafValue s k p n) (p + n)) (failed InvalidUtf8 at))
       by true = (i .past, i .inside)
       by false = tt
-  past-of at (E.Container C.List p n) i = past-mapped (length s) at list p (i .past) (items f n p) (reaches-items (length s) f past n p (i .inside))
+  past-of at (E.Container C.List p n) i = past-mapped (length s) at Tree.list p (i .past) (items f n p) (reaches-items (length s) f past n p (i .inside))
   past-of at (E.Container C.Dictionary p n) i =
-      past-mapped (length s) at dictionary p (i .past) (entries s f [] n p) (reaches-entries [] n p (i .inside))
+      past-mapped (length s) at Tree.dictionary p (i .past) (entries s f [] n p) (reaches-entries [] n p (i .inside))
   past-of at (E.Container C.Structure p n) i = by (ltb p (length s)) refl
     where
       by : (t : Bool) → ltb p (length s) ≡ t
-          → Past (length s) at (cond t (mapped (structure (getD s p 0)) (items f n (p + 1))) (failed ValueTruncated at))
+          → Past (length s) at (cond t (mapped (Tree.structure (getD s p 0)) (items f n (p + 1))) (failed ValueTruncated at))
       by true e =
           let l = ltb-true p (length s) e in
-          past-mapped (length s) at (structure (getD s p 0)) (p + 1) (omega (arith, i .past)) (items f n (p + 1))
+          past-mapped (length s) at (Tree.structure (getD s p 0)) (p + 1) (omega (arith, i .past)) (items f n (p + 1))
           (reaches-items (length s) f past n (p + 1) (omega arith))
       by false e = tt
   past-of at (E.Refused why place) i = tt
@@ -290,7 +292,7 @@ entries-count s f seen (suc n) p es q e =
     let i = first-entry s f seen n p es q e in
     rw (i .all) (ap suc (entries-count s f (i .k .content ∷ seen) n (i .next) (i .rest) q (i .others) .0), refl)
 
-pub list-read : (f : ℕ → Parse Value) (n p q : ℕ) → outcome (items f n p) ≡ parsed tt q → R.Value (H.List p n) q ≡ readingOf (mapped list (items f n p))
+pub list-read : (f : ℕ → Parse Value) (n p q : ℕ) → outcome (items f n p) ≡ parsed tt q → R.Value (H.List p n) q ≡ readingOf (mapped Tree.list (items f n p))
 unfolding headOf
 list-read f n p q e =
     let g = parsed-as (items f n p) q e in
@@ -298,7 +300,7 @@ list-read f n p q e =
     rw (g .1, c .0, c .1)
 
 pub dictionary-read : (s : List ℕ) (f : ℕ → Parse Value) (n p q : ℕ) → outcome (entries s f [] n p) ≡ parsed tt q
-    → R.Value (H.Dictionary p n) q ≡ readingOf (mapped dictionary (entries s f [] n p))
+    → R.Value (H.Dictionary p n) q ≡ readingOf (mapped Tree.dictionary (entries s f [] n p))
 unfolding headOf
 dictionary-read s f n p q e =
     let g = parsed-as (entries s f [] n p) q e in
@@ -311,7 +313,7 @@ module _ (s : List ℕ) (f : ℕ → Parse Value) (at p n : ℕ) where
 
   module _ (h : p < length s) where
     pub fields-refused : (why : Refusal) (q : ℕ) → outcome (items f n (p + 1)) ≡ failed why q → R.Refused why q ≡ readingOf (structureAt s f at p n)
-    fields-refused why q e = rw (lt-ltb p (length s) h) (refused-as (structure (getD s p 0)) (items f n (p + 1)) why q e)
+    fields-refused why q e = rw (lt-ltb p (length s) h) (refused-as (Tree.structure (getD s p 0)) (items f n (p + 1)) why q e)
 
     pub structure-read : (q : ℕ) → outcome (items f n (p + 1)) ≡ parsed tt q
         → R.Value (H.Structure (getD s p 0) (p + 1) n) q ≡ readingOf (structureAt s f at p n)
@@ -320,3 +322,47 @@ module _ (s : List ℕ) (f : ℕ → Parse Value) (at p n : ℕ) where
         let g = parsed-as (items f n (p + 1)) q e in
         let c = items-count f n (p + 1) (g .0) q (g .1) in
         rw (lt-ltb p (length s) h, g .1, c .0, c .1)
+
+-- ---- what the reading of a value tells
+pub data ValueTells (s : List ℕ) (depth at : ℕ) : Parse Value → Type 0 where
+  leaf : (k : Leaf) (p n : ℕ) → E.Leaf k p n ≡ extentAt s depth at → isText k (part s p n) ≡ true
+      → ValueTells s depth at (parsed (leafValue s k p n) (p + n))
+  list : (p n : ℕ) (vs : Items) (end : ℕ) → E.Container C.List p n ≡ extentAt s depth at → items (valueAt s (depth - 1)) n p ≡ parsed vs end
+      → ValueTells s depth at (parsed (Tree.list vs) end)
+  dictionary : (p n : ℕ) (es : Entries) (end : ℕ) → E.Container C.Dictionary p n ≡ extentAt s depth at
+      → entries s (valueAt s (depth - 1)) [] n p ≡ parsed es end → ValueTells s depth at (parsed (Tree.dictionary es) end)
+  structure : (p n : ℕ) (vs : Items) (end : ℕ) → E.Container C.Structure p n ≡ extentAt s depth at → p < length s
+      → items (valueAt s (depth - 1)) n (p + 1) ≡ parsed vs end → ValueTells s depth at (parsed (Tree.structure (getD s p 0) vs) end)
+  none : (why : Refusal) (place : ℕ) → ValueTells s depth at (failed why place)
+
+module _ (s : List ℕ) (depth at : ℕ) where
+  mapped-tells : {A : Type 0} (w : A → Value) (g : Parse A) → ((a : A) (end : ℕ) → g ≡ parsed a end → ValueTells s depth at (parsed (w a) end))
+      → ValueTells s depth at (mapped w g)
+  mapped-tells w (parsed a end) h = h a end refl
+  mapped-tells w (failed why place) h = none why place
+
+  value-by-extent : (x : Extent) → x ≡ extentAt s depth at → ValueTells s depth at (valueAt s depth at)
+  value-by-extent (E.Leaf k p n) e = subst (ValueTells s depth at) (by-leaf s depth at k p n e) (by (isText k (part s p n)) refl)
+    where
+      by : (t : Bool) → isText k (part s p n) ≡ t → ValueTells s depth at (leafAt s at k p n)
+      by true f = subst (ValueTells s depth at) (sym (leaf-text s at k p n f)) (leaf k p n e f)
+      by false f = subst (ValueTells s depth at) (sym (leaf-no-text s at k p n f)) (none InvalidUtf8 at)
+  value-by-extent (E.Refused why place) e = subst (ValueTells s depth at) (by-refused s depth at why place e) (none why place)
+  value-by-extent (E.Container C.List p n) e =
+      subst (ValueTells s depth at) (by-container s depth at C.List p n e)
+      (mapped-tells Tree.list (items (valueAt s (depth - 1)) n p) (λ vs end f. list p n vs end e f))
+  value-by-extent (E.Container C.Dictionary p n) e =
+      subst (ValueTells s depth at) (by-container s depth at C.Dictionary p n e)
+      (mapped-tells Tree.dictionary (entries s (valueAt s (depth - 1)) [] n p) (λ es end f. dictionary p n es end e f))
+  value-by-extent (E.Container C.Structure p n) e =
+      subst (ValueTells s depth at) (by-container s depth at C.Structure p n e) (by (ltb p (length s)) refl)
+    where
+      by : (t : Bool) → ltb p (length s) ≡ t
+          → ValueTells s depth at (cond t (mapped (Tree.structure (getD s p 0)) (items (valueAt s (depth - 1)) n (p + 1))) (failed ValueTruncated at))
+      by true f =
+          mapped-tells (Tree.structure (getD s p 0)) (items (valueAt s (depth - 1)) n (p + 1))
+          (λ vs end g. structure p n vs end e (ltb-true p (length s) f) g)
+      by false f = none ValueTruncated at
+
+  pub value-tells : ValueTells s depth at (valueAt s depth at)
+  value-tells = value-by-extent (extentAt s depth at) refl

@@ -4,6 +4,8 @@ pub mod Decode
 pub mod Keys
 pub mod Reading
 pub mod Walk
+pub mod Placement
+pub mod Embedding
 pub mod Cases
 pub mod Packing
 pub mod RoundTrip
