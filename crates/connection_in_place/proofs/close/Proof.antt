@@ -1,4 +1,4 @@
--- `connection::in_place::close` meets its contract: a walk of its MIR, by hand. The borrow is opened, the record's two parts are copied out and
+-- `connection_in_place::close` meets its contract: a walk of its MIR, by hand. The borrow is opened, the record's two parts are copied out and
 -- passed to the step, the record that the step gave is stored over the old one, and the borrow is closed at it.
 -- All that the proof knows of the step is that it meets its contract. Assumes nothing.
 use mathlib.Core.Path.{_≡_, refl, ap}
@@ -37,30 +37,30 @@ use denote.Triple.Call.{calls-at}
 use denote.Triple.Clauses.{ensured, lasts}
 use denote.Triple.Table.{entered, cited}
 use denote.Triple.Walked.{says, Stays, stay-ref, walkOf, AllGo, goes-ref, Walks, ends-at, walked, walk-meets}
 use Rattle.connection.specs.declared.record.Control.{Control}
 use Rattle.connection.specs.declared.record.Queue.{Queue}
 use Rattle.connection.specs.declared.record.Connection.{Connection}
 use Rattle.connection.specs.declared.answers.Closing.{Closing}
 use Rattle.connection.specs.declared.answers.AfterClose.{AfterClose}
 use Rattle.connection.specs.Record.{After, joined, toldClose, closeOf}
 use Rattle.connection.proofs.record.Connection as T
 use Rattle.connection.proofs.record.Connection.Laws as T′
 use Rattle.connection.proofs.record.Control as K
 use Rattle.connection.proofs.record.Control.Laws as K′
 use Rattle.connection.proofs.record.Queue as Q
 use Rattle.connection.proofs.record.Queue.Laws as Q′
 use Rattle.connection.proofs.answers.AfterClose as U
 use Rattle.connection.proofs.answers.AfterClose.Laws as U′
 use Rattle.connection.proofs.answers.Closing as Ans
 use Rattle.connection.proofs.answers.Closing.Laws as Ans′
 use Rattle.connection.proofs.close.step as callee
 use Rattle.connection.proofs.close.step.Symbol as callee-def
 use Rattle.connection.proofs.close.step.Symbol.{name as #step}
 use Rattle.connection.proofs.close.step.Met as callee-thm
-use Rattle.connection.proofs.in_place.close.Key.{name as #in-place}
-use Rattle.connection.proofs.in_place.close as this
-use Rattle.connection.proofs.in_place.close.Statement as stated
-use Rattle.connection.proofs.in_place.close.Code as code
+use Rattle.connection_in_place.proofs.close.Key.{name as #in-place}
+use Rattle.connection_in_place.proofs.close as this
+use Rattle.connection_in_place.proofs.close.Statement as stated
+use Rattle.connection_in_place.proofs.close.Code as code
 
 abbrev stayed : Stays (this.ended .signature .params) (this.ended .kept)
 stayed = (stay-ref (0 ∷ []) tt (plain (λ _. T.the-row)), tt)

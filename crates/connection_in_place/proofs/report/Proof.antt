@@ -1,4 +1,4 @@
--- `connection::in_place::arrive` meets its contract: a walk of its MIR, by hand. The borrow is opened, the record's two parts are copied out and
+-- `connection_in_place::report` meets its contract: a walk of its MIR, by hand. The borrow is opened, the record's two parts are copied out and
 -- passed to the step, the record that the step gave is stored over the old one, and the borrow is closed at it.
 -- All that the proof knows of the step is that it meets its contract. Assumes nothing.
 use mathlib.Core.Path.{_≡_, refl, ap}
@@ -38,33 +38,33 @@ use denote.Triple.Clauses.{ensured, lasts}
 use denote.Triple.Table.{entered, cited}
 use denote.Triple.Walked.{says, Stays, stay-ref, stay-none, walkOf, AllGo, goes-ref, goes-none, Walks, ends-at, walked, walk-meets}
 use denote.Exit.{yes}
 use Rattle.connection.specs.declared.record.Control.{Control}
 use Rattle.connection.specs.declared.record.Queue.{Queue}
 use Rattle.connection.specs.declared.record.Connection.{Connection}
-use Rattle.connection.specs.declared.record.Request.{Request}
-use Rattle.connection.specs.declared.answers.Arrival.{Arrival}
-use Rattle.connection.specs.declared.answers.AfterArrive.{AfterArrive}
-use Rattle.connection.specs.Record.{After, joined, toldArrive, arriveOf}
+use Rattle.connection.specs.declared.answers.Outcome.{Outcome}
+use Rattle.connection.specs.declared.answers.Reported.{Reported}
+use Rattle.connection.specs.declared.answers.AfterReport.{AfterReport}
+use Rattle.connection.specs.Record.{After, joined, toldReport, reportOf}
 use Rattle.connection.proofs.record.Connection as T
 use Rattle.connection.proofs.record.Connection.Laws as T′
 use Rattle.connection.proofs.record.Control as K
 use Rattle.connection.proofs.record.Control.Laws as K′
 use Rattle.connection.proofs.record.Queue as Q
 use Rattle.connection.proofs.record.Queue.Laws as Q′
-use Rattle.connection.proofs.record.Request as R
-use Rattle.connection.proofs.record.Request.Laws as R′
-use Rattle.connection.proofs.answers.AfterArrive as U
-use Rattle.connection.proofs.answers.AfterArrive.Laws as U′
-use Rattle.connection.proofs.answers.Arrival as Ans
-use Rattle.connection.proofs.answers.Arrival.Laws as Ans′
-use Rattle.connection.proofs.arrive.step as callee
-use Rattle.connection.proofs.arrive.step.Symbol as callee-def
-use Rattle.connection.proofs.arrive.step.Symbol.{name as #step}
-use Rattle.connection.proofs.arrive.step.Met as callee-thm
-use Rattle.connection.proofs.in_place.arrive.Key.{name as #in-place}
-use Rattle.connection.proofs.in_place.arrive as this
-use Rattle.connection.proofs.in_place.arrive.Statement as stated
-use Rattle.connection.proofs.in_place.arrive.Code as code
+use Rattle.connection.proofs.answers.Outcome as R
+use Rattle.connection.proofs.answers.Outcome.Laws as R′
+use Rattle.connection.proofs.answers.AfterReport as U
+use Rattle.connection.proofs.answers.AfterReport.Laws as U′
+use Rattle.connection.proofs.answers.Reported as Ans
+use Rattle.connection.proofs.answers.Reported.Laws as Ans′
+use Rattle.connection.proofs.report.step as callee
+use Rattle.connection.proofs.report.step.Symbol as callee-def
+use Rattle.connection.proofs.report.step.Symbol.{name as #step}
+use Rattle.connection.proofs.report.step.Met as callee-thm
+use Rattle.connection_in_place.proofs.report.Key.{name as #in-place}
+use Rattle.connection_in_place.proofs.report as this
+use Rattle.connection_in_place.proofs.report.Statement as stated
+use Rattle.connection_in_place.proofs.report.Code as code
 
 abbrev stayed : Stays (this.ended .signature .params) (this.ended .kept)
 stayed = (stay-ref (0 ∷ []) tt (plain (λ _. T.the-row)), (stay-none (λ _. R.the-row) yes, tt))
@@ -79,10 +79,10 @@ valsK = LL.vals K.the-type K′.the-laws
 abbrev valsQ : Queue → List Val
 valsQ = LL.vals Q.the-type Q′.the-laws
 
-abbrev valsR : Request → List Val
+abbrev valsR : Outcome → List Val
 valsR = EL.vals R.the-type R′.the-laws
 
-abbrev valsA : Arrival → List Val
+abbrev valsA : Reported → List Val
 valsA = EL.vals Ans.the-type Ans′.the-laws
 
 -- what whoever holds a record, or the step's result, knows of its parts
@@ -92,10 +92,10 @@ control-of h g = LL.owed T.the-type T′.the-laws h (vals h) g .0
 queue-of : (h : Connection) → Is T.the-row h (vals h) → Is Q.the-row (h .queue) (valsQ (h .queue))
 queue-of h g = LL.owed T.the-type T′.the-laws h (vals h) g .1 .0
 
-record-is : (r : AfterArrive) (vs : List Val) → Is U.the-row r vs → Is T.the-row (r .connection) (vals (r .connection))
+record-is : (r : AfterReport) (vs : List Val) → Is U.the-row r vs → Is T.the-row (r .connection) (vals (r .connection))
 record-is r vs is = LL.owed U.the-type U′.the-laws r vs is .0
 
-answer-is : (r : AfterArrive) (vs : List Val) → Is U.the-row r vs → Is Ans.the-row (r .answer) (valsA (r .answer))
+answer-is : (r : AfterReport) (vs : List Val) → Is U.the-row r vs → Is Ans.the-row (r .answer) (valsA (r .answer))
 answer-is r vs is = LL.owed U.the-type U′.the-laws r vs is .1 .0
 
 module _ {M : Type 1} (𝓤 : URA M) (H : Heap 𝓤) (A : Atoms 𝓤) (at-mem : Memory → SProp 𝓤) (run : Routine → Fun 𝓤) where
@@ -104,12 +104,12 @@ module _ {M : Type 1} (𝓤 : URA M) (H : Heap 𝓤) (A : Atoms 𝓤) (at-mem : 
   Called = tripleOf 𝓤 H A callee.signature (callee.spec 𝓤 H A at-mem run)
 
   -- of what the callee ensures, the clause alone
-  said : (h : Connection) (w : Request) (r : AfterArrive)
-      → ent 𝓤 (ensured 𝓤 H A callee.ended (callee.clauses 𝓤 H A at-mem run) tt (h .control, (h .queue, (w, tt))) tt r) (fact 𝓤 (toldArrive r ≡ arriveOf h w))
-  said h w r = exE 𝓤 _ (λ ws. snd∗ 𝓤 (sem 𝓤 H A (lasts callee.ended tt (h .control, (h .queue, (w, tt))) ws)) (fact 𝓤 (toldArrive r ≡ arriveOf h w)))
+  said : (h : Connection) (w : Outcome) (r : AfterReport)
+      → ent 𝓤 (ensured 𝓤 H A callee.ended (callee.clauses 𝓤 H A at-mem run) tt (h .control, (h .queue, (w, tt))) tt r) (fact 𝓤 (toldReport r ≡ reportOf h w))
+  said h w r = exE 𝓤 _ (λ ws. snd∗ 𝓤 (sem 𝓤 H A (lasts callee.ended tt (h .control, (h .queue, (w, tt))) ws)) (fact 𝓤 (toldReport r ≡ reportOf h w)))
 
-module _ {M : Type 1} (𝓤 : URA M) (H : Heap 𝓤) (A : Atoms 𝓤) (W : Given 𝓤 H A) (at-mem : Memory → SProp 𝓤) (run : Routine → Fun 𝓤) (κ : Lft) (q : Share) (b o : ℕ) (γ : GName) (h : Connection) (w : Request) (fits : Is R.the-row w (valsR w)) where
-  abbrev x : RefT Connection × (Request × Unit {0})
+module _ {M : Type 1} (𝓤 : URA M) (H : Heap 𝓤) (A : Atoms 𝓤) (W : Given 𝓤 H A) (at-mem : Memory → SProp 𝓤) (run : Routine → Fun 𝓤) (κ : Lft) (q : Share) (b o : ℕ) (γ : GName) (h : Connection) (w : Outcome) (fits : Is R.the-row w (valsR w)) where
+  abbrev x : RefT Connection × (Outcome × Unit {0})
   x = (record { ptr = (b, o); name = γ; now = h }, (w, tt))
 
   abbrev at : List Val × (List Val × Unit {0})
@@ -118,7 +118,7 @@ module _ {M : Type 1} (𝓤 : URA M) (H : Heap 𝓤) (A : Atoms 𝓤) (W : Given
   abbrev Post : Val → SProp 𝓤
   Post = walkOf 𝓤 H A this.ended stayed (this.clauses 𝓤 H A at-mem run) .post (((κ, tt), (q, tt), tt, x, at), tt)
 
-  exits : (r : AfterArrive) → toldArrive r ≡ arriveOf h w → Is Ans.the-row (r .answer) (valsA (r .answer))
+  exits : (r : AfterReport) → toldReport r ≡ reportOf h w → Is Ans.the-row (r .answer) (valsA (r .answer))
       → ent 𝓤 (sep 𝓤 (A .obs γ (T.the-row .coded .code (r .connection))) (sep 𝓤 (A .bor κ (Body (mem T.the-row) b o γ)) (A .lft κ q))) (Post (only (valsA (r .answer))))
   exits r e is =
       qed W (‵ (fobs γ (T.the-row .coded .code (r .connection))) ∷ ‵ (fbor κ (Body (mem T.the-row) b o γ)) ∷ ‵ (flft κ q) ∷ []) ∵
@@ -152,8 +152,8 @@ module _ {M : Type 1} (𝓤 : URA M) (H : Heap 𝓤) (A : Atoms 𝓤) (W : Given
         owned ! K.the-row (Is K.the-row) (LL.makes K.the-type K′.the-plain 𝓤 H A) (h .control) _ (control-of h g) $
         move ! (18 ∷ 0 ∷ 1 ∷ []) $ use3 W (raw (Called 𝓤 H A at-mem run .pre to-step)) goes-step $
         calls-at ! fm (Called 𝓤 H A at-mem run) known to-step (and-then ! (load ! (from ! (stop !)) (look ! 7 refl)) (and-then ! (load ! (from ! (stop !)) (look ! 5 refl)) (and-then ! (load ! (from ! (stop !)) (look ! 11 refl)) (no-more !)))) (λ v.
-        use1 W (later (some (λ (r : AfterArrive). (‵ ftrue ⊛ ‵ (U.the-row .own r (v ∷ []))) ⊛ raw (ensured 𝓤 H A callee.ended (callee.clauses 𝓤 H A at-mem run) tt (h .control, (h .queue, (w, tt))) tt r)))) (id⊢ 𝓤 _) $ await ! tt $ pick ! (λ r.
-        split ! $ move ! (1 ∷ []) $ use1 W (raw (fact 𝓤 (toldArrive r ≡ arriveOf h w))) (said 𝓤 H A at-mem run h w r) $ heard ! (toldArrive r ≡ arriveOf h w) (λ e. split ! $ drop ! $
+        use1 W (later (some (λ (r : AfterReport). (‵ ftrue ⊛ ‵ (U.the-row .own r (v ∷ []))) ⊛ raw (ensured 𝓤 H A callee.ended (callee.clauses 𝓤 H A at-mem run) tt (h .control, (h .queue, (w, tt))) tt r)))) (id⊢ 𝓤 _) $ await ! tt $ pick ! (λ r.
+        split ! $ move ! (1 ∷ []) $ use1 W (raw (fact 𝓤 (toldReport r ≡ reportOf h w))) (said 𝓤 H A at-mem run h w r) $ heard ! (toldReport r ≡ reportOf h w) (λ e. split ! $ drop ! $
         peeks ! U.the-row (Is U.the-row) (shows 𝓤 H A U.the-row) r (v ∷ []) (λ is.
         -- [what the result owns; the record's cell; the open borrow; obs; auth; _5; …; _4; …; room for _3; …; _2; …; _1; …; room for _0; …]
         land ! (from ! (stop !)) (init ! 9 refl (LL.lawful U.the-type U′.the-laws 𝓤 H A W .typed r _ is .0)) $
@@ -179,10 +179,10 @@ this-meets : {M : Type 1} (𝓤 : URA M) (H : Heap 𝓤) (A : Atoms 𝓤) (W : G
 this-meets 𝓤 H A W at-mem run 𝓣 known = walk-meets 𝓤 H A this.ended stayed W (goes 𝓤 H A W at-mem run) (this.clauses 𝓤 H A at-mem run) (WpFn 𝓤 H (𝓣 .C) (𝓣 .Λ) code.function) (WpFn-mono 𝓤 H (W .laws) 𝓣 code.function)
     (this-walks 𝓤 H A W at-mem run (𝓣 .C) (𝓣 .Λ) (fmOf 𝓤 H (W .laws) 𝓣) known)
 
-pub arrive-spec : {M : Type 1} → stated.statement M
+pub report-spec : {M : Type 1} → stated.statement M
 unfolding code.routine tablesOf
-arrive-spec 𝓤 H 𝓜 𝓖 𝓡 =
+report-spec 𝓤 H 𝓜 𝓖 𝓡 =
     entered 𝓤 H (tripleOf 𝓤 H (𝓖 .A) this.signature (this.spec 𝓤 H (𝓖 .A) (𝓜 .mem) (𝓡 .run)))
     (tables 𝓤 H 𝓜 𝓡 code.env .C) (tables 𝓤 H 𝓜 𝓡 code.env .Λ) #in-place code.function (code.unfolded 𝓤 H 𝓜 𝓡)
     (this-meets 𝓤 H (𝓖 .A) (givenOf 𝓤 H 𝓜 𝓖) (𝓜 .mem) (𝓡 .run) (tablesOf 𝓤 H 𝓜 (tables 𝓤 H 𝓜 𝓡 code.env))
-    (cited 𝓤 H (Called 𝓤 H (𝓖 .A) (𝓜 .mem) (𝓡 .run)) 𝓜 𝓡 code.env #step callee-def.routine code.calls-connection·arrive·step (callee-thm.met 𝓤 H 𝓜 𝓖 𝓡)))
+    (cited 𝓤 H (Called 𝓤 H (𝓖 .A) (𝓜 .mem) (𝓡 .run)) 𝓜 𝓡 code.env #step callee-def.routine code.calls-connection·report·step (callee-thm.met 𝓤 H 𝓜 𝓖 𝓡)))

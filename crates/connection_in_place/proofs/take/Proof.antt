@@ -1,4 +1,4 @@
--- `connection::in_place::take` meets its contract: a walk of its MIR, by hand. The borrow is opened, the record's two parts are copied out and
+-- `connection_in_place::take` meets its contract: a walk of its MIR, by hand. The borrow is opened, the record's two parts are copied out and
 -- passed to the step, the record that the step gave is stored over the old one, and the borrow is closed at it.
 -- All that the proof knows of the step is that it meets its contract. Assumes nothing.
 use mathlib.Core.Path.{_≡_, refl, ap}
@@ -37,30 +37,30 @@ use denote.Triple.Call.{calls-at}
 use denote.Triple.Clauses.{ensured, lasts}
 use denote.Triple.Table.{entered, cited}
 use denote.Triple.Walked.{says, Stays, stay-ref, walkOf, AllGo, goes-ref, Walks, ends-at, walked, walk-meets}
 use Rattle.connection.specs.declared.record.Control.{Control}
 use Rattle.connection.specs.declared.record.Queue.{Queue}
 use Rattle.connection.specs.declared.record.Connection.{Connection}
 use Rattle.connection.specs.declared.answers.Taken.{Taken}
 use Rattle.connection.specs.declared.answers.AfterTake.{AfterTake}
 use Rattle.connection.specs.Record.{After, joined, toldTake, takeOf}
 use Rattle.connection.proofs.record.Connection as T
 use Rattle.connection.proofs.record.Connection.Laws as T′
 use Rattle.connection.proofs.record.Control as K
 use Rattle.connection.proofs.record.Control.Laws as K′
 use Rattle.connection.proofs.record.Queue as Q
 use Rattle.connection.proofs.record.Queue.Laws as Q′
 use Rattle.connection.proofs.answers.AfterTake as U
 use Rattle.connection.proofs.answers.AfterTake.Laws as U′
 use Rattle.connection.proofs.answers.Taken as Ans
 use Rattle.connection.proofs.answers.Taken.Laws as Ans′
 use Rattle.connection.proofs.take.step as callee
 use Rattle.connection.proofs.take.step.Symbol as callee-def
 use Rattle.connection.proofs.take.step.Symbol.{name as #step}
 use Rattle.connection.proofs.take.step.Met as callee-thm
-use Rattle.connection.proofs.in_place.take.Key.{name as #in-place}
-use Rattle.connection.proofs.in_place.take as this
-use Rattle.connection.proofs.in_place.take.Statement as stated
-use Rattle.connection.proofs.in_place.take.Code as code
+use Rattle.connection_in_place.proofs.take.Key.{name as #in-place}
+use Rattle.connection_in_place.proofs.take as this
+use Rattle.connection_in_place.proofs.take.Statement as stated
+use Rattle.connection_in_place.proofs.take.Code as code
 
 abbrev stayed : Stays (this.ended .signature .params) (this.ended .kept)
 stayed = (stay-ref (0 ∷ []) tt (plain (λ _. T.the-row)), tt)
