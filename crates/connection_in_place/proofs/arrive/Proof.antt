@@ -44,7 +44,7 @@ use Rattle.connection.specs.declared.record.Connection.{Connection}
 use Rattle.connection.specs.declared.record.Request.{Request}
 use Rattle.connection.specs.declared.answers.Arrival.{Arrival}
 use Rattle.connection.specs.declared.answers.AfterArrive.{AfterArrive}
-use Rattle.connection.specs.Record.{After, joined, toldArrive, arriveOf}
+use Rattle.connection.specs.Record.{After, toldArrive, arriveOf}
 use Rattle.connection.proofs.record.Connection as T
 use Rattle.connection.proofs.record.Connection.Laws as T′
 use Rattle.connection.proofs.record.Control as K

@@ -42,7 +42,7 @@ use Rattle.connection.specs.declared.record.Queue.{Queue}
 use Rattle.connection.specs.declared.record.Connection.{Connection}
 use Rattle.connection.specs.declared.answers.Closing.{Closing}
 use Rattle.connection.specs.declared.answers.AfterClose.{AfterClose}
-use Rattle.connection.specs.Record.{After, joined, toldClose, closeOf}
+use Rattle.connection.specs.Record.{After, toldClose, closeOf}
 use Rattle.connection.proofs.record.Connection as T
 use Rattle.connection.proofs.record.Connection.Laws as T′
 use Rattle.connection.proofs.record.Control as K

@@ -44,7 +44,7 @@ use Rattle.connection.specs.declared.record.Connection.{Connection}
 use Rattle.connection.specs.declared.answers.Outcome.{Outcome}
 use Rattle.connection.specs.declared.answers.Reported.{Reported}
 use Rattle.connection.specs.declared.answers.AfterReport.{AfterReport}
-use Rattle.connection.specs.Record.{After, joined, toldReport, reportOf}
+use Rattle.connection.specs.Record.{After, toldReport, reportOf}
 use Rattle.connection.proofs.record.Connection as T
 use Rattle.connection.proofs.record.Connection.Laws as T′
 use Rattle.connection.proofs.record.Control as K

@@ -42,7 +42,7 @@ use Rattle.connection.specs.declared.record.Queue.{Queue}
 use Rattle.connection.specs.declared.record.Connection.{Connection}
 use Rattle.connection.specs.declared.answers.Taken.{Taken}
 use Rattle.connection.specs.declared.answers.AfterTake.{AfterTake}
-use Rattle.connection.specs.Record.{After, joined, toldTake, takeOf}
+use Rattle.connection.specs.Record.{After, toldTake, takeOf}
 use Rattle.connection.proofs.record.Connection as T
 use Rattle.connection.proofs.record.Connection.Laws as T′
 use Rattle.connection.proofs.record.Control as K
