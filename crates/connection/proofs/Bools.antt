@@ -7,6 +7,12 @@ pub by-test : {A : Type 0} (P : A → Type 0) (b : Bool) {x y : A} → (b ≡ tr
 by-test P true f g = f refl
 by-test P false f g = g refl
 
+pub or-yes : (a b : Bool) → a ≡ true → true ≡ (a || b)
+or-yes a b e = sym (ap (λ (x : Bool). x || b) e)
+
+pub or-no : (a b : Bool) {c : Bool} → a ≡ false → c ≡ b → c ≡ (a || b)
+or-no a b e f = f ∙ sym (ap (λ (x : Bool). x || b) e)
+
 pub or-left : (a b : Bool) → (a || b) ≡ false → a ≡ false
 or-left true b e = e
 or-left false b e = refl

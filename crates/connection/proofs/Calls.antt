@@ -1,7 +1,7 @@
 -- The calls by the tests that each makes first, and what a record that keeps the rules has. Assumes nothing.
-use mathlib.Core.Path.{_≡_, refl, sym, ap, _∙_, subst}
-use mathlib.Core.Bool.{Bool, true, false, cond, not, _&&_}
-use Prim.Native.Nat.{ℕ, _+_, _<_, _≤_}
+use mathlib.Core.Path.{_≡_, refl, sym, ap, _∙_}
+use mathlib.Core.Bool.{Bool, true, false, cond, _&&_}
+use Prim.Native.Nat.{_+_, _<_, _≤_}
 use native.Mathlib.Omega.{arith}
 use lib.Dec.{eqb, leb}
 use lib.ListN.{length}
@@ -15,7 +15,7 @@ use Rattle.connection.specs.declared.record.Request.{Request}
 use Rattle.connection.specs.Requests.{inState, inRange}
 use Rattle.connection.specs.Table.{Table, Done, idle, unlessDefunct, accept, takeFirst}
 use Rattle.connection.specs.Rules.{distinctBelow, countsRule, stateRules, rules, openRule, resetRule, mayBeInFlight, firstInFlight, flightRule, waitingRule, numbersRule}
-use Rattle.connection.specs.Record.{After, joined, front, firstIn, openOf, kept, keepsRules, carried, called}
+use Rattle.connection.specs.Record.{joined, front, firstIn, openOf, kept, keepsRules, carried, called}
 use Rattle.connection.proofs.Bools.{and-left, and-right}
 use Rattle.connection.proofs.Keeping.{Fits}
 use Rattle.connection.proofs.Standing.{counts-by, one-in-flight}

@@ -1,13 +1,13 @@
 -- Demand 3 holds of every list of calls: the theorem `demand3`. Beside it: `checked`, when a call gives 24. Assumes nothing.
 use mathlib.Core.Path.{_≡_, refl, sym, ap, _∙_, subst}
-use mathlib.Core.Bool.{Bool, true, false, cond, not, true≢false, false≢true, _&&_, _||_}
+use mathlib.Core.Bool.{Bool, true, false, cond, true≢false, _||_}
 use mathlib.Core.List.{List, [], _∷_, _++_, map, append-assoc, append-nil}
 use mathlib.Core.Logic.{⊎-elim, _⊎_, inl, inr}
-use Prim.Native.Nat.{ℕ, suc, _+_, _-_, _<_, _≤_}
+use Prim.Native.Nat.{ℕ, _+_, _-_}
 use native.Mathlib.Nat.{add-zero, zero-add}
 use native.Mathlib.Omega.{arith}
-use lib.Dec.{eqb, leb}
-use lib.ListN.{length, take, length-append, length-map}
+use lib.Dec.{leb}
+use lib.ListN.{length, take, length-append}
 use lib.Seq.{length-sets}
 use borrow.Author.Tests.{le-leb}
 use Rattle.refusal.specs.Answer.{Answer, result, refused}
@@ -16,19 +16,18 @@ use Rattle.connection.specs.declared.record.State.the-variants.{Connecte
 use Rattle.connection.specs.declared.record.Request.{Request}
 use Rattle.connection.specs.declared.record.Connection.{Connection}
 use Rattle.connection.specs.declared.answers.Outcome.{Outcome}
-use Rattle.connection.specs.declared.answers.Outcome.the-variants as O
 use Rattle.connection.specs.declared.answers.Failure.the-variants.{StreamsFull, StreamUnknown}
 use Rattle.connection.specs.declared.answers.Summary.{Summary}
 use Rattle.connection.specs.declared.answers.Summary.the-variants as S
 use Rattle.connection.specs.declared.turn.Turn.{Turn}
 use Rattle.connection.specs.declared.turn.Turn.the-variants as U
-use Rattle.connection.specs.Requests.{RESET, RUN, kindOf, inState, is, fetches, inRange, any}
-use Rattle.connection.specs.Appendix.{ignores, handsOver, newState}
+use Rattle.connection.specs.Requests.{RESET, kindOf, inState, is, inRange, any}
+use Rattle.connection.specs.Appendix.{newState}
 use Rattle.connection.specs.Table as T
-use Rattle.connection.specs.Table.{Open, Table, Call, Said, Done, start, step, isFull, namesOpen, defunct, enqueued, accept, turnOf, counted, answer, taken, takeFirst, response, streamsAfter, waitingIn, settled, reported, fitting, reportFirst}
-use Rattle.connection.specs.Record.{After, joined, kept, put, slot, keepsRules, carried, called, fresh}
+use Rattle.connection.specs.Table.{Open, Table, Call, Said, Done, start, step, defunct, accept, turnOf, answer, taken, takeFirst, response, streamsAfter, reported, fitting, reportFirst}
+use Rattle.connection.specs.Record.{After, kept, put, slot, keepsRules, carried, called, fresh}
 use Rattle.connection.specs.Rules.{isHanded}
-use Rattle.connection.specs.Claim.{callOf, Event, run, events, saidBy, leftBy, runT, eventsT, acceptedBy, requests, Numbered, pairedWith, summaryBy, summaries, numbered, handsOne, wronglyHanded, Demand3, Checked}
+use Rattle.connection.specs.Claim.{callOf, Event, run, events, saidBy, leftBy, runT, eventsT, acceptedBy, requests, Numbered, pairedWith, summaryBy, summaries, numbered, wronglyHanded, Demand3, Checked}
 use Rattle.connection.proofs.Bools.{by-test, and-both}
 use Rattle.connection.proofs.Calls.{broken, standing}
 use Rattle.connection.proofs.Invariant.{Keeps, step-keeps, start-keeps, keeps-rules}

@@ -1,32 +1,31 @@
 -- The standing rules, one by one, and that each step of the state table keeps them. Assumes nothing.
-use mathlib.Core.Path.{_≡_, refl, sym, ap, _∙_, subst}
-use mathlib.Core.Bool.{Bool, true, false, cond, not, true≢false, false≢true, _&&_, _||_, or-false, or-true, Bool·beq}
+use mathlib.Core.Path.{_≡_, refl, sym, ap, _∙_}
+use mathlib.Core.Bool.{Bool, true, false, cond, not, true≢false, false≢true, _&&_, _||_, or-false, or-true}
 use mathlib.Core.List.{List, [], _∷_, _++_}
 use Prim.Native.Nat.{ℕ, suc, _+_, _-_, _<_, _≤_}
 use native.Mathlib.Omega.{arith}
 use lib.Dec.{eqb, ltb, leb}
 use lib.ListN.{length, length-append}
-use borrow.Author.Tests.{eqb-true, eqb-false, leb-true, leb-false, ltb-true, le-leb, lt-leb, lt-ltb, eq-eqb, ne-eqb}
-use Rattle.refusal.specs.Answer.{Answer, result, refused}
+use borrow.Author.Tests.{leb-false, ltb-true, le-leb, lt-ltb, eq-eqb, ne-eqb}
+use Rattle.refusal.specs.Answer.{Answer}
 use Rattle.connection.specs.declared.record.State.{State}
 use Rattle.connection.specs.declared.record.State.the-variants.{Connected, Ready, Streaming, TxReady, TxStreaming, Failed, Interrupted, Defunct}
 use Rattle.connection.specs.declared.record.Request.{Request}
 use Rattle.connection.specs.declared.answers.Outcome.{Outcome}
 use Rattle.connection.specs.declared.answers.Outcome.the-variants as O
-use Rattle.connection.specs.declared.answers.Summary.{Summary}
 use Rattle.connection.specs.declared.turn.Turn.{Turn}
 use Rattle.connection.specs.declared.turn.Turn.the-variants as U
 use Rattle.connection.specs.Requests.{HELLO, RESET, RUN, BEGIN, kindOf, inState, inTransaction, is, fetches, asked, named, outOfRange, inRange, any}
 use Rattle.connection.specs.Appendix.{success, last, last-of-several, newState, handsOver, ignores}
-use Rattle.connection.specs.Table.{Open, Table, Call, Done, arrive, take, report, close, start, step, noneOpen, oneMore, oneLess, has, without, isFull, namesOpen, defunct, enqueued, accept, arriveT, turnOf, counted, answer, taken, takeFirst, takeT, response, successStreams, streamsAfter, summaryOf, waitingIn, settled, reported, fitting, reportFirst, reportT, closeT}
-use Rattle.connection.specs.Rules.{waitingRule, numbersRule, distinctBelow, openRule, resetRule, works, isHanded, mayBeInFlight, firstInFlight, flightRule, countsRule, stateRules, rules}
+use Rattle.connection.specs.Table.{Open, Table, Call, Done, arrive, take, report, close, start, step, noneOpen, oneMore, oneLess, has, without, isFull, namesOpen, defunct, enqueued, accept, arriveT, turnOf, counted, taken, takeFirst, takeT, response, successStreams, streamsAfter, settled, reported, fitting, reportFirst, reportT, closeT}
+use Rattle.connection.specs.Rules.{waitingRule, numbersRule, distinctBelow, works, isHanded, mayBeInFlight, firstInFlight, countsRule, stateRules, rules}
 use Rattle.connection.specs.Claim.{leftBy}
 use Rattle.connection.specs.Parts.{lastState}
-use Rattle.connection.proofs.Bools.{by-test, or-left, or-right, and-left, and-right, and-both, not-yes, not-no, alike-same, same-alike}
+use Rattle.connection.proofs.Bools.{by-test, or-left, or-right, and-left, and-right, and-both, not-yes, not-no, alike-same}
 use Rattle.connection.proofs.Lists.{any-append}
 use Rattle.connection.proofs.Numbers.{without-length}
 use Rattle.connection.proofs.Rows.{hands-running, hands-calm, hands-work, works-calm, new-calm, run-streams, rest-streams, after-failure, after-more, after-batch}
-use Rattle.connection.proofs.Standing.{may-in, may-out, counts-by}
+use Rattle.connection.proofs.Standing.{may-in, may-out}
 use Rattle.connection.proofs.Turns.{handed-facts, room-for-one}
 
 -- ---- the rules as facts

@@ -1,13 +1,13 @@
 -- What a record keeps, and a record that holds what a table keeps: `kept` and `put`. Assumes nothing.
-use mathlib.Core.Path.{_≡_, refl, sym, ap, _∙_, subst}
+use mathlib.Core.Path.{_≡_, refl, sym, ap, _∙_}
 use mathlib.Core.Bool.{Bool, true, false, cond}
 use mathlib.Core.List.{List, [], _∷_, _++_}
 use Prim.Native.Nat.{ℕ, _+_, _-_, _<_, _≤_}
 use native.Mathlib.Omega.{arith}
 use lib.ListN.{length, length-append}
-use Rattle.refusal.specs.Answer.{Answer, result, refused}
+use Rattle.refusal.specs.Answer.{result}
 use Rattle.connection.specs.declared.record.State.{State}
-use Rattle.connection.specs.declared.record.State.the-variants.{Connected, Interrupted, Defunct}
+use Rattle.connection.specs.declared.record.State.the-variants.{Connected, Interrupted}
 use Rattle.connection.specs.declared.record.Request.{Request}
 use Rattle.connection.specs.declared.record.Queue.{Queue}
 use Rattle.connection.specs.declared.record.Streams.{Streams}
@@ -16,11 +16,11 @@ use Rattle.connection.specs.declared.record.Connection.{Connection}
 use Rattle.connection.specs.declared.answers.Summary.{Summary}
 use Rattle.connection.specs.declared.turn.Turn.{Turn}
 use Rattle.connection.specs.Requests.{RESET, is, inState}
-use Rattle.connection.specs.Table.{Open, Table, Done, queued, closed, idle, answered, handed, noneOpen, defunct, enqueued, accept, answer, taken, takeFirst, turnOf}
-use Rattle.connection.specs.Record.{After, joined, front, behind, firstIn, linedUp, openOf, laid, kept, controlOf, put, carried}
+use Rattle.connection.specs.Table.{Open, Table, Done, queued, closed, idle, answered, noneOpen, defunct, enqueued, accept, answer, taken, takeFirst, turnOf}
+use Rattle.connection.specs.Record.{After, joined, front, behind, firstIn, linedUp, openOf, laid, kept, put, carried}
 use Rattle.connection.specs.Parts.{defunctIn, countedIn, enqueuedIn, answeredIn, handedIn}
-use Rattle.connection.proofs.Numbers.{laid-own, open-laid}
-use Rattle.connection.proofs.Waiting.{front-length, behind-length, front-first, lined-own, front-lined}
+use Rattle.connection.proofs.Numbers.{laid-own}
+use Rattle.connection.proofs.Waiting.{front-length, behind-length, front-first, lined-own}
 
 -- a record whose arrays have their lengths, and whose counts fit them
 pub record Fits (k : Control) (q : Queue) : Type 0 where

@@ -1,13 +1,13 @@
 -- Laws of lists: a run of stores at the front of a list, and a scan of a list from a place on. Assumes nothing.
 use mathlib.Core.Path.{_≡_, refl, sym, ap, _∙_}
 use mathlib.Core.Bool.{Bool, true, false, _||_, or-assoc}
-use mathlib.Core.List.{List, [], _∷_, _++_, map}
+use mathlib.Core.List.{List, [], _∷_, _++_}
 use Prim.Native.Nat.{ℕ, suc, _+_, _-_, _<_, _≤_}
 use native.Mathlib.Numerals.{add-one}
 use native.Mathlib.Nat.{zero-add, add-zero}
 use native.Mathlib.Omega.{arith}
-use lib.ListN.{length, take, drop, getD, set, length-append, take-append-drop, drop-of-length-le}
-use lib.Seq.{drop-cons, length-take-le, take-suc, take-at, sets, sets-eq, getD-drop}
+use lib.ListN.{length, take, drop, getD, set, take-append-drop, drop-of-length-le}
+use lib.Seq.{drop-cons, length-take-le, take-suc, take-at, sets, sets-eq}
 use Rattle.connection.specs.Requests.{any}
 
 -- ---- a run of stores at the front

@@ -56,15 +56,18 @@ module _ (l : List ℕ) (n : ℕ) (long : length l ≡ 8) (few : n ≤ 8) where
         let past : length (take n l) ≤ i = omega (arith, open-length) in
         ap (distinctBelow next) (drop-of-length-le (take n l) past)
 
--- ---- the rule
-module _ (o : Open) (few : length (o .numbers) ≤ 8) where
-  pub next-high : 65536 < o .next → numbersRule o ≡ false
-  unfolding numbersRule
-  next-high h = λ i. le-leb (length (o .numbers)) 8 few i && (lt-leb (o .next) 65536 h i && distinctBelow (o .next) (o .numbers))
+-- ---- the rule, by the next number
+module _ (s : Streams) (long : length (s .numbers) ≡ 8) (few : s .count ≤ 8) where
+  eight : leb (length (take (s .count) (s .numbers))) 8 ≡ true
+  eight = le-leb (length (take (s .count) (s .numbers))) 8 (omega (arith, open-length (s .numbers) (s .count) long few))
 
-  pub next-right : o .next ≤ 65536 → numbersRule o ≡ distinctBelow (o .next) (o .numbers)
+  pub next-high : 65536 < s .next → numbersRule (openOf s) ≡ false
   unfolding numbersRule
-  next-right h = λ i. le-leb (length (o .numbers)) 8 few i && (le-leb (o .next) 65536 h i && distinctBelow (o .next) (o .numbers))
+  next-high h = λ i. eight i && (lt-leb (s .next) 65536 h i && distinctBelow (s .next) (take (s .count) (s .numbers)))
+
+  pub next-right : s .next ≤ 65536 → numbersRule (openOf s) ≡ distinctBelow (s .next) (take (s .count) (s .numbers))
+  unfolding numbersRule
+  next-right h = λ i. eight i && (le-leb (s .next) 65536 h i && distinctBelow (s .next) (take (s .count) (s .numbers)))
 
 -- ---- streams that are laid
 module _ (s : Streams) (long : length (s .numbers) ≡ 8) where

@@ -1,14 +1,13 @@
 -- What a report leaves, by the tests in its definition. Assumes nothing.
 use mathlib.Core.Path.{_≡_, refl, sym, ap, _∙_, subst}
 use mathlib.Core.Bool.{Bool, true, false, cond, _&&_}
-use mathlib.Core.List.{List, [], _∷_}
-use Prim.Native.Nat.{ℕ, _+_, _-_, _<_, _≤_}
-use native.Mathlib.Omega.{arith}
+use mathlib.Core.List.{List, []}
+use Prim.Native.Nat.{ℕ, _+_, _-_, _<_}
 use lib.Dec.{eqb}
 use lib.ListN.{length}
 use Rattle.refusal.specs.Answer.{Answer, result, refused}
 use Rattle.connection.specs.declared.record.State.{State}
-use Rattle.connection.specs.declared.record.State.the-variants.{Interrupted, Defunct}
+use Rattle.connection.specs.declared.record.State.the-variants.{Ready, Streaming, TxReady, Failed, Interrupted, Defunct}
 use Rattle.connection.specs.declared.record.Request.{Request}
 use Rattle.connection.specs.declared.record.Streams.{Streams}
 use Rattle.connection.specs.declared.record.Queue.{Queue}
@@ -18,14 +17,13 @@ use Rattle.connection.specs.declared.answers.Outcome.the-variants.{Succe
 use Rattle.connection.specs.declared.answers.Reported.the-variants.{Answered}
 use Rattle.connection.specs.declared.answers.Summary.{Summary}
 use Rattle.connection.specs.declared.answers.Summary.the-variants as S
-use Rattle.connection.specs.Requests.{RUN, BEGIN, kindOf, inState, inTransaction, is, fetches, asked, named}
+use Rattle.connection.specs.Requests.{Kind, HELLO, RUN, BEGIN, isKind, kindOf, inState, inTransaction, is, fetches, asked, named}
 use Rattle.connection.specs.Appendix.{newState, handsOver}
-use Rattle.connection.specs.Table.{Open, Table, Done, oneMore, oneLess, answer, answered, response, successStreams, streamsAfter, successSummary, summaryOf, waitingIn, settled, reported, fitting, reportFirst, unlessDefunct}
-use Rattle.connection.specs.Record.{After, joined, front, behind, firstIn, openOf, laid, kept, carried, toldReport}
-use Rattle.connection.specs.Parts.{answeredIn, settledIn}
-use Rattle.connection.proofs.Bools.{by-test}
+use Rattle.connection.specs.Table.{Open, Table, Done, oneMore, oneLess, answer, answered, response, successStreams, streamsAfter, successSummary, summaryOf, waitingIn, settled, reported, fitting, reportFirst}
+use Rattle.connection.specs.Record.{joined, front, behind, firstIn, openOf, laid, kept, carried, toldReport}
+use Rattle.connection.specs.Parts.{answeredIn, lastState, failureState, settledIn}
 use Rattle.connection.proofs.Keeping.{Fits, put-answered, answers}
-use Rattle.connection.proofs.Waiting.{front-first, behind-length}
+use Rattle.connection.proofs.Waiting.{front-first}
 
 -- ---- the summary and the streams of a success
 module _ (s : State) (r : Request) {f run tx : Bool} (p : fetches r ≡ f) (u : is RUN r ≡ run) (v : inTransaction s ≡ tx) where
@@ -37,6 +35,13 @@ module _ (s : State) (r : Request) {f run tx : Bool} (p : fetches r ≡ f) (u : 
       → cond f (oneLess (named (asked r) (o .next)) o) (cond (run && tx) (oneMore o) (cond begin (record { numbers = []; next = 0 }) o)) ≡ successStreams s o r
   unfolding successStreams
   streams-by o w = sym (λ i. cond (p i) (oneLess (named (asked r) (o .next)) o) (cond (u i && v i) (oneMore o) (cond (w i) (record { numbers = []; next = 0 }) o)))
+
+-- ---- the state after the last batch, and after a failure
+pub last-by : (s : State) (left : ℕ) {none one : Bool} → eqb left 0 ≡ none → inState s Streaming ≡ one → cond none (cond one Ready TxReady) s ≡ lastState s left
+last-by s left p q = sym (λ i. cond (p i) (cond (q i) Ready TxReady) s)
+
+pub failure-by : (k : Kind) {hello : Bool} → isKind k HELLO ≡ hello → cond hello Defunct Failed ≡ failureState k
+failure-by k p = sym (λ i. cond (p i) Defunct Failed)
 
 -- ---- the state after a success, by the request
 pub state-by : (s : State) (r q : Request) (left : ℕ) (b : State) → r ≡ q → (handsOver s (kindOf q) ≡ true → b ≡ newState s (kindOf q) (response Success q left)) → handsOver s (kindOf r) ≡ true

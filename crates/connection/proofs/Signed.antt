@@ -1,7 +1,7 @@
 -- Signed numbers by their signs: the ranges of n and qid, and the stream that a qid names. Each law is of the number z, and of w, z as the
 -- machine holds it. Assumes nothing.
 use mathlib.Core.Path.{_≡_, refl, sym, ap, _∙_, subst}
-use mathlib.Core.Bool.{Bool, true, false, true≢false, false≢true}
+use mathlib.Core.Bool.{true, false, true≢false, false≢true}
 use Prim.Native.Nat.{ℕ, zero, suc, _<_}
 use native.Mathlib.Omega.{arith}
 use lib.Dec.{T, leb, eqb, leb·zero}

@@ -1,21 +1,21 @@
 -- The standing rules by their parts, as the check comes to them. Assumes nothing.
-use mathlib.Core.Path.{_≡_, refl, sym, ap, _∙_, subst}
-use mathlib.Core.Bool.{Bool, true, false, cond, not, _&&_, and-false, Bool·beq}
-use mathlib.Core.List.{List, [], _∷_}
+use mathlib.Core.Path.{_≡_, refl, sym, ap, _∙_}
+use mathlib.Core.Bool.{Bool, true, false, cond, not, _&&_, and-false}
+use mathlib.Core.List.{List}
 use Prim.Native.Nat.{ℕ, _+_, _-_, _<_, _≤_}
 use native.Mathlib.Omega.{arith}
 use lib.Dec.{eqb, leb}
-use lib.ListN.{length, take}
+use lib.ListN.{length}
 use borrow.Author.Tests.{le-leb, lt-leb, eq-eqb, ne-eqb, eqb-true, eqb-false}
 use Rattle.connection.specs.declared.record.State.{State}
-use Rattle.connection.specs.declared.record.State.the-variants.{TxStreaming, Interrupted, Defunct}
+use Rattle.connection.specs.declared.record.State.the-variants.{Interrupted, Defunct}
 use Rattle.connection.specs.declared.record.Request.{Request}
 use Rattle.connection.specs.declared.record.Connection.{Connection}
-use Rattle.connection.specs.Requests.{RESET, inState, is, kindOf, outOfRange, any}
+use Rattle.connection.specs.Requests.{inState, kindOf, outOfRange, any}
 use Rattle.connection.specs.Table.{Open, Table, turnOf}
 use Rattle.connection.specs.Rules.{waitingRule, numbersRule, openRule, resetRule, works, isHanded, mayBeInFlight, firstInFlight, flightRule, countsRule, stateRules, rules}
 use Rattle.connection.specs.Record.{kept, keepsRules}
-use Rattle.connection.proofs.Bools.{and-left, and-right, by-test}
+use Rattle.connection.proofs.Bools.{by-test}
 
 -- ---- the counts
 module _ (s : State) (waiting accepted sent : ℕ) where

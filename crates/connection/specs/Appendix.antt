@@ -1,12 +1,12 @@
 -- 003, "Appendix - Bolt Message State Transitions", row by row: the requests that are handed over or ignored in a state, each response, and
 -- the state that follows. Assumes nothing.
-use mathlib.Core.Bool.{Bool, true, false, cond, _&&_, _||_}
+use mathlib.Core.Bool.{Bool, cond, _&&_}
 use mathlib.Core.List.{List, [], _∷_}
 use Prim.Native.Nat.{ℕ}
 use lib.Dec.{eqb}
 use Rattle.connection.specs.declared.record.State.{State}
 use Rattle.connection.specs.declared.record.State.the-variants.{Connected, Ready, Streaming, TxReady, TxStreaming, Failed, Interrupted, Defunct}
-use Rattle.connection.specs.Requests.{Kind, HELLO, GOODBYE, RESET, RUN, BEGIN, COMMIT, ROLLBACK, DISCARD, PULL, inState, isKind, any}
+use Rattle.connection.specs.Requests.{Kind, HELLO, RUN, BEGIN, COMMIT, ROLLBACK, DISCARD, PULL, inState, isKind, any}
 
 -- the response's column
 pub data Response : Type 0 where

@@ -1,23 +1,66 @@
--- Cases of document 01, as theorems of the state table: each holds by computing. Assumes nothing.
+-- Document 01's own cases, and the errors it says were met, as theorems of the state table: each holds by computing. Assumes nothing.
 use mathlib.Core.Path.{_≡_, refl}
-use mathlib.Core.Bool.{Bool, true, false}
-use mathlib.Core.List.{List, [], _∷_, _++_, map}
-use Prim.Native.Nat.{ℕ}
+use mathlib.Core.List.{List, [], _∷_, _++_}
+use Prim.Native.Nat.{ℕ, zero, suc}
 use lib.IntN.{pos, negsuc}
-use lib.ListN.{replicate}
 use Rattle.refusal.specs.Answer.{Answer, result, refused}
+use Rattle.connection.specs.declared.record.State.the-variants.{TxStreaming}
 use Rattle.connection.specs.declared.record.Request.{Request}
-use Rattle.connection.specs.declared.record.Request.the-variants.{Hello, Goodbye, Reset, Run, Begin, Commit, Rollback, Discard, Pull}
-use Rattle.connection.specs.declared.record.State.the-variants.{Connected, Ready, Streaming, TxReady, TxStreaming, Failed, Interrupted, Defunct}
-use Rattle.connection.specs.declared.answers.Outcome.the-variants.{Success, More, Failure}
-use Rattle.connection.specs.Requests.{Kind, HELLO, RUN, PULL}
-use Rattle.connection.specs.Appendix.{handsOver, newState, last}
-use Rattle.connection.specs.Table.{Table, Call, arrive, take, report, close, step, start, turnOf}
+use Rattle.connection.specs.declared.record.Request.the-variants.{Hello, Reset, Run, Begin, Pull}
+use Rattle.connection.specs.declared.answers.Outcome.the-variants.{Success, Failure}
+use Rattle.connection.specs.declared.answers.Failure.the-variants.{StreamsFull, EngineFailed}
+use Rattle.connection.specs.declared.answers.Summary.the-variants as S
+use Rattle.connection.specs.Appendix.{newState, ignores, handsOver}
+use Rattle.connection.specs.Table.{Call, arrive, take, report, Said, answered, start, step, turnOf, isFull, namesOpen, successStreams, successSummary}
+use Rattle.connection.specs.Claim.{saidBy, runT}
 
-t1 : handsOver Streaming PULL ≡ true
-unfolding handsOver
-t1 = refl
+-- what a call answers after some others, from the fresh record
+answers : List Call → Call → Answer Said
+answers calls x = saidBy (step (runT start calls) x)
 
-t2 : newState TxStreaming PULL last ≡ TxReady
-unfolding newState
-t2 = refl
+-- a request that comes, is handed over and succeeds
+served : Request → List Call
+served r = arrive r ∷ take ∷ report Success ∷ []
+
+times : ℕ → List Call → List Call
+times zero calls = []
+times (suc n) calls = calls ++ times n calls
+
+-- eight streams of a transaction
+eight : List Call
+eight = served Hello ++ (served Begin ++ times 8 (served Run))
+
+-- "the 33rd arrival 17"
+full-queue : answers (times 32 (arrive Run ∷ [])) (arrive Run) ≡ refused 17 0
+unfolding answers times
+full-queue = refl
+
+-- "with eight streams open the ninth RUN fails"
+full-streams : answers (eight ++ (arrive Run ∷ [])) take ≡ result (answered (S.Failure StreamsFull) 11)
+unfolding answers served times eight turnOf isFull namesOpen handsOver ignores newState successStreams successSummary
+full-streams = refl
+
+-- "had one ended before it, it passes"
+room-again : answers (eight ++ (served (Pull (negsuc 0) (pos 3)) ++ (arrive Run ∷ take ∷ []))) (report Success) ≡ result (answered (S.Stream 8) 12)
+unfolding answers served times eight turnOf isFull namesOpen handsOver ignores newState successStreams successSummary
+room-again = refl
+
+-- "Keeping streams open after FAILED"
+none-open : runT start (eight ++ (arrive Run ∷ take ∷ [])) .streams .numbers ≡ []
+unfolding served times eight turnOf isFull namesOpen handsOver ignores newState successStreams successSummary
+none-open = refl
+
+-- "Sending the transaction to READY when one of two streams ends"
+two-streams : runT start (served Hello ++ (served Begin ++ (served Run ++ (served Run ++ served (Pull (negsuc 0) (pos 0)))))) .state ≡ TxStreaming
+unfolding served turnOf isFull namesOpen handsOver ignores newState successStreams successSummary
+two-streams = refl
+
+-- "Letting work ahead of a second RESET run"
+two-resets : answers (served Hello ++ (arrive Reset ∷ arrive Run ∷ arrive Reset ∷ take ∷ [])) take ≡ result (answered S.Ignored 3)
+unfolding answers served turnOf isFull namesOpen handsOver ignores newState successStreams successSummary
+two-resets = refl
+
+-- a HELLO that fails closes, with its summary
+hello-fails : answers (arrive Hello ∷ take ∷ []) (report Failure) ≡ result (answered (S.Failure EngineFailed) 1)
+unfolding answers turnOf isFull namesOpen handsOver ignores newState
+hello-fails = refl

@@ -2,7 +2,7 @@
 use Prim.Native.Nat.{ℕ, _+_, _-_, _<_, _≤_}
 use mathlib.Core.Path.{_≡_}
 use mathlib.Core.Bool.{true, false, cond, _&&_}
-use mathlib.Core.List.{List, [], _∷_, _++_}
+use mathlib.Core.List.{[], _∷_, _++_}
 use lib.Dec.{eqb}
 use lib.ListN.{length}
 use Rattle.connection.specs.declared.record.State.{State}
@@ -16,6 +16,8 @@ use Rattle.connection.specs.declared.answers.Outcome.{Outcome}
 use Rattle.connection.specs.declared.answers.Summary.{Summary}
 use Rattle.connection.specs.declared.answers.Reported.the-variants.{Answered}
 use Rattle.connection.specs.declared.answers.AfterReport.{AfterReport}
+use Rattle.connection.specs.declared.answers.Taken.the-variants as T
+use Rattle.connection.specs.declared.answers.AfterTake.{AfterTake}
 use Rattle.connection.specs.Requests.{Kind, HELLO, RUN, is, isKind, kindOf, inState}
 use Rattle.connection.specs.Appendix.{handsOver, newState}
 use Rattle.connection.specs.Table.{Open, noneOpen, isFull, fitting, response, streamsAfter}
@@ -62,6 +64,13 @@ enqueuedIn k q s v r = joined (countedIn k s v) (linedUp q (front q (k .waiting)
 abbrev pub answeredIn : Control → Queue → State → Streams → ℕ → Connection
 answeredIn k q s v left =
     joined (record { state = s; «in_flight» = false; waiting = left; streams = v; accepted = k .accepted; sent = k .sent + 1 }) (linedUp q (behind q left))
+
+-- the first has its summary from take, and no stream stays open
+abbrev pub clearedIn : Control → Queue → State → Summary → AfterTake
+clearedIn k q s summary = record {
+  connection = answeredIn k q s (laid (k .streams) (noneOpen (openOf (k .streams)))) (k .waiting - 1);
+  answer = T.Answered summary (k .sent + 1);
+}
 
 -- the first is in flight
 abbrev pub handedIn : Control → Control

@@ -1,7 +1,7 @@
 -- The record as the code holds it: what of it the state table keeps, and each call on it. Assumes nothing.
 use Prim.Native.Nat.{ℕ}
 use mathlib.Core.Bool.{Bool, false, cond, _&&_}
-use mathlib.Core.List.{List, [], _∷_, map}
+use mathlib.Core.List.{List, map}
 use lib.Dec.{leb}
 use lib.ListN.{length, take, drop, getD, replicate}
 use lib.Seq.{sets}

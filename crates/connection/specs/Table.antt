@@ -7,7 +7,7 @@ use lib.Dec.{eqb, leb}
 use lib.ListN.{length}
 use Rattle.refusal.specs.Answer.{Answer, result, refused}
 use Rattle.connection.specs.declared.record.State.{State}
-use Rattle.connection.specs.declared.record.State.the-variants.{Connected, Ready, Streaming, TxReady, TxStreaming, Failed, Interrupted, Defunct}
+use Rattle.connection.specs.declared.record.State.the-variants.{Connected, Ready, Streaming, Failed, Interrupted, Defunct}
 use Rattle.connection.specs.declared.record.Request.{Request}
 use Rattle.connection.specs.declared.answers.Outcome.{Outcome}
 use Rattle.connection.specs.declared.answers.Outcome.the-variants.{Success, More, Failure}
@@ -16,7 +16,7 @@ use Rattle.connection.specs.declared.answers.Summary.{Summary}
 use Rattle.connection.specs.declared.answers.Summary.the-variants as S
 use Rattle.connection.specs.declared.turn.Turn.{Turn}
 use Rattle.connection.specs.declared.turn.Turn.the-variants as U
-use Rattle.connection.specs.Requests.{Kind, HELLO, RESET, RUN, BEGIN, kindOf, inState, inTransaction, is, fetches, inRange, asked, named, isLatest, any}
+use Rattle.connection.specs.Requests.{RESET, RUN, BEGIN, kindOf, inState, inTransaction, is, fetches, inRange, asked, named, isLatest, any}
 use Rattle.connection.specs.Appendix.{Response, success, more, last, last-of-several, failure, newState, ignores, handsOver}
 
 -- ---- what the table keeps

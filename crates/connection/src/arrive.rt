@@ -1,4 +1,5 @@
-// Arrive: document 01, "Connection record".
+// Arrive: a request has come, and goes to the end of the queue. Document 01, "Connection record".
+// The refusals come in this order: 24, 18, 16, 20, 17.
 use super::answers::AfterArrive;
 use super::answers::Arrival;
 use super::changes;
@@ -22,57 +23,16 @@ ghost use Rattle.connection.specs.Table.{accept as acceptT};
 ghost use Rattle.connection.specs.Record.{joined, kept, carried, toldArrive, arriveOf};
 ghost use Rattle.connection.specs.Parts.{Accepting, enqueuedIn};
 
-fn answer(control: Control, queue: Queue, answer: Arrival) -> AfterArrive
-    ensures { λ r. ⌜ r ≡ record { connection = joined control queue; answer = answer } ⌝ }
+// A request has come. A RESET interrupts what is going on at once; before HELLO it closes the connection.
+pub fn arrive(connection: Connection, request: Request) -> AfterArrive
+    ensures { λ r. ⌜ toldArrive r ≡ arriveOf connection request ⌝ }
 {
-    let connection = Connection {
-        control: control,
-        queue: queue,
-    };
-    AfterArrive {
-        connection: connection,
-        answer: answer,
-    }
+    let control = connection.control;
+    let queue = connection.queue;
+    step(control, queue, request)
 }
 
-// A request goes to the end of the queue.
-fn enqueue(
-    control: Control,
-    queue: Queue,
-    state: State,
-    streams: Streams,
-    request: Request,
-) -> AfterArrive
-    requires { ⌜ (control .waiting < 32) × (control .accepted < 4294967295) ⌝ }
-    ensures { λ r. ⌜ r ≡ record { connection = enqueuedIn control queue state streams request; answer = Queued } ⌝ }
-{
-    let longer = queue::put(queue, control.waiting, request);
-    answer(
-        changes::counted(control, state, streams),
-        longer,
-        Arrival::Queued,
-    )
-}
-
-// A request is accepted. RESET interrupts at once; before HELLO it closes.
-fn accept(control: Control, queue: Queue, request: Request) -> AfterArrive
-    requires { ⌜ Accepting control ⌝ }
-    ensures { λ r. ⌜ toldArrive r ≡ carried (joined control queue) (result (acceptT (kept (joined control queue)) request)) ⌝ }
-{
-    let state = control.state;
-    let streams = control.streams;
-    if requests::tag(request) == requests::RESET {
-        if states::is_in(state, State::Connected) {
-            let counted = changes::counted(control, state, streams);
-            return answer(changes::defunct(counted), queue, Arrival::Closed);
-        }
-        let emptied = streams::none_open(streams);
-        return enqueue(control, queue, State::Interrupted, emptied, request);
-    }
-    enqueue(control, queue, state, streams, request)
-}
-
-// The same on the parts of a record.
+// The call on the two parts of a record.
 pub fn step(control: Control, queue: Queue, request: Request) -> AfterArrive
     ensures { λ r. ⌜ toldArrive r ≡ arriveOf (joined control queue) request ⌝ }
 {
@@ -99,11 +59,52 @@ pub fn step(control: Control, queue: Queue, request: Request) -> AfterArrive
     accept(control, queue, request)
 }
 
-// A request has come.
-pub fn arrive(connection: Connection, request: Request) -> AfterArrive
-    ensures { λ r. ⌜ toldArrive r ≡ arriveOf connection request ⌝ }
+// A request is accepted. RESET interrupts at once; before HELLO it closes.
+fn accept(control: Control, queue: Queue, request: Request) -> AfterArrive
+    requires { ⌜ Accepting control ⌝ }
+    ensures { λ r. ⌜ toldArrive r ≡ carried (joined control queue) (result (acceptT (kept (joined control queue)) request)) ⌝ }
 {
-    let control = connection.control;
-    let queue = connection.queue;
-    step(control, queue, request)
+    let state = control.state;
+    let streams = control.streams;
+    if requests::tag(request) == requests::RESET {
+        if states::is_in(state, State::Connected) {
+            let counted = changes::counted(control, state, streams);
+            return answer(changes::defunct(counted), queue, Arrival::Closed);
+        }
+        let emptied = streams::none_open(streams);
+        return enqueue(control, queue, State::Interrupted, emptied, request);
+    }
+    enqueue(control, queue, state, streams, request)
+}
+
+// A request goes to the end of the queue.
+fn enqueue(
+    control: Control,
+    queue: Queue,
+    state: State,
+    streams: Streams,
+    request: Request,
+) -> AfterArrive
+    requires { ⌜ (control .waiting < 32) × (control .accepted < 4294967295) ⌝ }
+    ensures { λ r. ⌜ r ≡ record { connection = enqueuedIn control queue state streams request; answer = Queued } ⌝ }
+{
+    let longer = queue::put(queue, control.waiting, request);
+    answer(
+        changes::counted(control, state, streams),
+        longer,
+        Arrival::Queued,
+    )
+}
+
+fn answer(control: Control, queue: Queue, answer: Arrival) -> AfterArrive
+    ensures { λ r. ⌜ r ≡ record { connection = joined control queue; answer = answer } ⌝ }
+{
+    let connection = Connection {
+        control: control,
+        queue: queue,
+    };
+    AfterArrive {
+        connection: connection,
+        answer: answer,
+    }
 }

@@ -1,4 +1,4 @@
-// The changes that the calls make to a record.
+// The changes that the calls make to a record, each with all the fields that it sets.
 use super::queue;
 use super::record::Connection;
 use super::record::Control;

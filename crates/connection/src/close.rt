@@ -1,4 +1,5 @@
-// Close: document 01, "Connection record".
+// Close: the connection ends. Document 01, "Connection record".
+// The refusals come in this order: 24, 18.
 use super::answers::AfterClose;
 use super::answers::Closing;
 use super::changes;
@@ -12,20 +13,16 @@ use refusal::Refusal;
 ghost use mathlib.Core.Path.{_≡_};
 ghost use Rattle.connection.specs.Record.{joined, toldClose, closeOf};
 
-fn answer(control: Control, queue: Queue, answer: Closing) -> AfterClose
-    ensures { λ r. ⌜ r ≡ record { connection = joined control queue; answer = answer } ⌝ }
+// Ends the connection: nothing waits afterwards, and every further call is refused.
+pub fn close(connection: Connection) -> AfterClose
+    ensures { λ r. ⌜ toldClose r ≡ closeOf connection ⌝ }
 {
-    let connection = Connection {
-        control: control,
-        queue: queue,
-    };
-    AfterClose {
-        connection: connection,
-        answer: answer,
-    }
+    let control = connection.control;
+    let queue = connection.queue;
+    step(control, queue)
 }
 
-// The same on the parts of a record.
+// The call on the two parts of a record.
 pub fn step(control: Control, queue: Queue) -> AfterClose
     ensures { λ r. ⌜ toldClose r ≡ closeOf (joined control queue) ⌝ }
 {
@@ -39,11 +36,15 @@ pub fn step(control: Control, queue: Queue) -> AfterClose
     answer(changes::defunct(control), queue, Closing::Closed)
 }
 
-// Ends the connection: nothing waits afterwards, and every further call is refused.
-pub fn close(connection: Connection) -> AfterClose
-    ensures { λ r. ⌜ toldClose r ≡ closeOf connection ⌝ }
+fn answer(control: Control, queue: Queue, answer: Closing) -> AfterClose
+    ensures { λ r. ⌜ r ≡ record { connection = joined control queue; answer = answer } ⌝ }
 {
-    let control = connection.control;
-    let queue = connection.queue;
-    step(control, queue)
+    let connection = Connection {
+        control: control,
+        queue: queue,
+    };
+    AfterClose {
+        connection: connection,
+        answer: answer,
+    }
 }

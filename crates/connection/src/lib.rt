@@ -4,7 +4,6 @@ pub mod answers; // answers.rt: what the calls answer
 pub mod arrive; // arrive.rt: a request comes
 mod changes; // changes.rt: what the calls change in a record
 pub mod close; // close.rt: the connection ends
-pub mod in_place; // in_place.rt: the calls on a record that stays where it lies
 mod queue; // queue.rt: the requests that wait, in order
 pub mod record; // record.rt: the record and its parts, and the fresh record
 pub mod report; // report.rt: the engine's outcome

@@ -1,4 +1,5 @@
-// The requests that wait, in order: the first one first.
+// The requests that wait, in order, at the front of the array; how many they are is the caller's to know. What the other places hold stays
+// as it is and never matters.
 use super::record::Queue;
 use super::record::Request;
 use super::record::Slot;
@@ -6,7 +7,7 @@ use super::requests;
 ghost use mathlib.Core.Path.{_≡_};
 ghost use mathlib.Core.List.{_∷_, _++_, []};
 ghost use Prim.Native.Nat.{_≤_, _<_};
-ghost use lib.ListN.{take, drop};
+ghost use lib.ListN.{drop};
 ghost use Rattle.connection.specs.Requests.{RESET, is, any, outOfRange};
 ghost use Rattle.connection.specs.Record.{front, behind, firstIn, linedUp};
 

@@ -1,4 +1,5 @@
-// Report: document 01, "Connection record", and 003's appendix.
+// Report: the engine's outcome for the request in flight. Document 01, "Connection record", and the next states of 003's appendix.
+// The refusals come in this order: 24, 18, 19.
 use super::answers::AfterReport;
 use super::answers::Failure;
 use super::answers::Outcome;
@@ -28,78 +29,145 @@ ghost use Rattle.connection.specs.Table.{isFull, fitting, response, succ
 ghost use Rattle.connection.specs.Record.{joined, front, openOf, laid, kept, carried, toldReport, reportOf};
 ghost use Rattle.connection.specs.Parts.{Reporting, Settling, answeredIn, lastState, failureState, settledIn};
 
-fn answer(control: Control, queue: Queue, answer: Reported) -> AfterReport
-    ensures { λ r. ⌜ r ≡ record { connection = joined control queue; answer = answer } ⌝ }
+// Brings the engine's outcome for the request in flight, and answers with its summary. Where a RESET came in between, the summary still goes
+// out, and nothing else follows from the outcome.
+pub fn report(connection: Connection, outcome: Outcome) -> AfterReport
+    ensures { λ r. ⌜ toldReport r ≡ reportOf connection outcome ⌝ }
 {
-    let connection = Connection {
-        control: control,
-        queue: queue,
-    };
-    AfterReport {
-        connection: connection,
-        answer: answer,
-    }
+    let control = connection.control;
+    let queue = connection.queue;
+    step(control, queue, outcome)
 }
 
-// The request in flight gets its summary, and `left` requests wait.
-fn sum_up(
+// The call on the two parts of a record.
+pub fn step(control: Control, queue: Queue, outcome: Outcome) -> AfterReport
+    ensures { λ r. ⌜ toldReport r ≡ reportOf (joined control queue) outcome ⌝ }
+{
+    if !rules::keeps_rules(control, queue) {
+        return answer(control, queue, Reported::Refused(Refusal::InvalidRecord));
+    }
+    let state = control.state;
+    if states::is_in(state, State::Defunct) {
+        return answer(
+            control,
+            queue,
+            Reported::Refused(Refusal::ConnectionDefunct),
+        );
+    }
+    if !control.in_flight {
+        return answer(control, queue, Reported::Refused(Refusal::UnexpectedReport));
+    }
+    if control.waiting == 0 {
+        return answer(control, queue, Reported::Refused(Refusal::UnexpectedReport));
+    }
+    report_first(control, queue, outcome)
+}
+
+// The outcome of the first request.
+fn report_first(control: Control, queue: Queue, outcome: Outcome) -> AfterReport
+    requires { ⌜ Reporting control queue ⌝ }
+    ensures { λ r. ⌜ toldReport r ≡ carried (joined control queue) (reportFirst outcome (kept (joined control queue)) (front queue (control .waiting))) ⌝ }
+{
+    let first = queue::first(queue);
+    if !fits(outcome, first) {
+        return answer(control, queue, Reported::Refused(Refusal::UnexpectedReport));
+    }
+    let state = control.state;
+    let streams = control.streams;
+    let summary = summary_of(outcome, state, streams.next, first);
+    if states::is_in(state, State::Interrupted) {
+        return sum_up(control, queue, state, streams, control.waiting - 1, summary);
+    }
+    settle(control, queue, first, outcome, summary)
+}
+
+// The outcome of the first request, where no RESET came in between.
+fn settle(
     control: Control,
     queue: Queue,
-    state: State,
-    streams: Streams,
-    left: usize,
+    first: Request,
+    outcome: Outcome,
     summary: Summary,
 ) -> AfterReport
-    requires { ⌜ (left < 32) × (control .sent < 4294967295) ⌝ }
-    ensures { λ r. ⌜ r ≡ record { connection = answeredIn control queue state streams left; answer = Answered summary (control .sent + 1) } ⌝ }
+    requires { ⌜ Settling control first outcome ⌝ }
+    ensures { λ r. ⌜ r ≡ settledIn control queue first outcome summary ⌝ }
 {
-    let connection = changes::answered(control, queue, state, streams, left);
-    let answer = Reported::Answered {
-        summary: summary,
-        number: control.sent + 1,
-    };
-    AfterReport {
-        connection: connection,
-        answer: answer,
+    let state = control.state;
+    let streams = control.streams;
+    let after = streams_after(outcome, state, streams, first);
+    let new = new_state(outcome, state, first, after.count);
+    if states::is_in(new, State::Defunct) {
+        return sum_up(control, queue, new, after, 0, summary);
     }
+    sum_up(control, queue, new, after, control.waiting - 1, summary)
 }
 
-// Whether an outcome fits a request: success with more is for PULL and DISCARD only.
-fn fits(outcome: Outcome, request: Request) -> bool
-    ensures { λ r. ⌜ r ≡ fitting outcome request ⌝ }
+// The state after a report, with `left` streams open.
+fn new_state(outcome: Outcome, state: State, request: Request, left: usize) -> State
+    requires { ⌜ (handsOver state (kindOf request) ≡ true) × (fitting outcome request ≡ true) ⌝ }
+    ensures { λ r. ⌜ r ≡ newState state (kindOf request) (response outcome request left) ⌝ }
 {
     match outcome {
-        Outcome::Success => true,
-        Outcome::More => requests::fetches(request),
-        Outcome::Failure => true,
+        Outcome::Success => after_success(state, request, left),
+        Outcome::More => state,
+        Outcome::Failure => after_failure(request),
     }
 }
 
-// The summary of a success: has_more for PULL and DISCARD, the stream's number for RUN in a transaction.
-fn success_summary(state: State, next: u64, request: Request) -> Summary
-    requires { ⌜ next ≤ 65536 ⌝ }
-    ensures { λ r. ⌜ r ≡ successSummary state next request ⌝ }
+// The state after a failure: FAILED, but a HELLO that fails closes.
+fn after_failure(request: Request) -> State
+    ensures { λ r. ⌜ r ≡ failureState (kindOf request) ⌝ }
 {
-    if requests::fetches(request) {
-        return Summary::HasMore(false);
+    if requests::tag(request) == requests::HELLO {
+        return State::Defunct;
     }
-    if requests::tag(request) == requests::RUN {
-        if states::in_transaction(state) {
-            return Summary::Stream(next as u32);
+    State::Failed
+}
+
+// The state after a success.
+fn after_success(state: State, request: Request, left: usize) -> State
+    requires { ⌜ handsOver state (kindOf request) ≡ true ⌝ }
+    ensures { λ r. ⌜ r ≡ newState state (kindOf request) (response Success request left) ⌝ }
+{
+    match request {
+        Request::Hello => State::Ready,
+        Request::Goodbye => state,
+        Request::Reset => state,
+        Request::Run => {
+            if states::is_in(state, State::Ready) {
+                return State::Streaming;
+            }
+            State::TxStreaming
         }
-        return Summary::Success;
+        Request::Begin => State::TxReady,
+        Request::Commit => State::Ready,
+        Request::Rollback => State::Ready,
+        Request::Discard { n: _, qid: _ } => after_last(state, left),
+        Request::Pull { n: _, qid: _ } => after_last(state, left),
     }
-    Summary::Success
 }
 
-fn summary_of(outcome: Outcome, state: State, next: u64, request: Request) -> Summary
-    requires { ⌜ next ≤ 65536 ⌝ }
-    ensures { λ r. ⌜ r ≡ summaryOf outcome state next request ⌝ }
+// The state after the last batch of a stream. While other streams are open, the transaction goes on streaming.
+fn after_last(state: State, left: usize) -> State
+    ensures { λ r. ⌜ r ≡ lastState state left ⌝ }
+{
+    if left == 0 {
+        if states::is_in(state, State::Streaming) {
+            return State::Ready;
+        }
+        return State::TxReady;
+    }
+    state
+}
+
+fn streams_after(outcome: Outcome, state: State, streams: Streams, request: Request) -> Streams
+    requires { ⌜ (streams .count ≤ 8) × ((is RUN request && isFull state (openOf streams)) ≡ false) ⌝ }
+    ensures { λ r. ⌜ r ≡ laid streams (streamsAfter outcome state (openOf streams) request) ⌝ }
 {
     match outcome {
-        Outcome::Success => success_summary(state, next, request),
-        Outcome::More => Summary::HasMore(true),
-        Outcome::Failure => Summary::Failure(Failure::EngineFailed),
+        Outcome::Success => success_streams(state, streams, request),
+        Outcome::More => streams,
+        Outcome::Failure => streams::none_open(streams),
     }
 }
 
@@ -126,143 +194,77 @@ fn success_streams(state: State, streams: Streams, request: Request) -> Streams
     streams
 }
 
-fn streams_after(outcome: Outcome, state: State, streams: Streams, request: Request) -> Streams
-    requires { ⌜ (streams .count ≤ 8) × ((is RUN request && isFull state (openOf streams)) ≡ false) ⌝ }
-    ensures { λ r. ⌜ r ≡ laid streams (streamsAfter outcome state (openOf streams) request) ⌝ }
+fn summary_of(outcome: Outcome, state: State, next: u64, request: Request) -> Summary
+    requires { ⌜ next ≤ 65536 ⌝ }
+    ensures { λ r. ⌜ r ≡ summaryOf outcome state next request ⌝ }
 {
     match outcome {
-        Outcome::Success => success_streams(state, streams, request),
-        Outcome::More => streams,
-        Outcome::Failure => streams::none_open(streams),
+        Outcome::Success => success_summary(state, next, request),
+        Outcome::More => Summary::HasMore(true),
+        Outcome::Failure => Summary::Failure(Failure::EngineFailed),
     }
 }
 
-// The state after the last batch of a stream. While other streams are open, the transaction goes on streaming.
-fn after_last(state: State, left: usize) -> State
-    ensures { λ r. ⌜ r ≡ lastState state left ⌝ }
+// The summary of a success: has_more for PULL and DISCARD, the stream's number for RUN in a transaction.
+fn success_summary(state: State, next: u64, request: Request) -> Summary
+    requires { ⌜ next ≤ 65536 ⌝ }
+    ensures { λ r. ⌜ r ≡ successSummary state next request ⌝ }
 {
-    if left == 0 {
-        if states::is_in(state, State::Streaming) {
-            return State::Ready;
+    if requests::fetches(request) {
+        return Summary::HasMore(false);
+    }
+    if requests::tag(request) == requests::RUN {
+        if states::in_transaction(state) {
+            return Summary::Stream(next as u32);
         }
-        return State::TxReady;
+        return Summary::Success;
     }
-    state
+    Summary::Success
 }
 
-// The state after a success.
-fn after_success(state: State, request: Request, left: usize) -> State
-    requires { ⌜ handsOver state (kindOf request) ≡ true ⌝ }
-    ensures { λ r. ⌜ r ≡ newState state (kindOf request) (response Success request left) ⌝ }
-{
-    match request {
-        Request::Hello => State::Ready,
-        Request::Goodbye => state,
-        Request::Reset => state,
-        Request::Run => {
-            if states::is_in(state, State::Ready) {
-                return State::Streaming;
-            }
-            State::TxStreaming
-        }
-        Request::Begin => State::TxReady,
-        Request::Commit => State::Ready,
-        Request::Rollback => State::Ready,
-        Request::Discard { n: _, qid: _ } => after_last(state, left),
-        Request::Pull { n: _, qid: _ } => after_last(state, left),
-    }
-}
-
-// The state after a failure: FAILED, but a HELLO that fails closes.
-fn after_failure(request: Request) -> State
-    ensures { λ r. ⌜ r ≡ failureState (kindOf request) ⌝ }
-{
-    if requests::tag(request) == requests::HELLO {
-        return State::Defunct;
-    }
-    State::Failed
-}
-
-// The state after a report, with `left` streams open.
-fn new_state(outcome: Outcome, state: State, request: Request, left: usize) -> State
-    requires { ⌜ (handsOver state (kindOf request) ≡ true) × (fitting outcome request ≡ true) ⌝ }
-    ensures { λ r. ⌜ r ≡ newState state (kindOf request) (response outcome request left) ⌝ }
+// Whether an outcome fits a request: success with more is for PULL and DISCARD only.
+fn fits(outcome: Outcome, request: Request) -> bool
+    ensures { λ r. ⌜ r ≡ fitting outcome request ⌝ }
 {
     match outcome {
-        Outcome::Success => after_success(state, request, left),
-        Outcome::More => state,
-        Outcome::Failure => after_failure(request),
+        Outcome::Success => true,
+        Outcome::More => requests::fetches(request),
+        Outcome::Failure => true,
     }
 }
 
-// The outcome of the first request, where no RESET came in between.
-fn settle(
+// The request in flight gets its summary, and `left` requests wait.
+fn sum_up(
     control: Control,
     queue: Queue,
-    first: Request,
-    outcome: Outcome,
+    state: State,
+    streams: Streams,
+    left: usize,
     summary: Summary,
 ) -> AfterReport
-    requires { ⌜ Settling control first outcome ⌝ }
-    ensures { λ r. ⌜ r ≡ settledIn control queue first outcome summary ⌝ }
+    requires { ⌜ (left < 32) × (control .sent < 4294967295) ⌝ }
+    ensures { λ r. ⌜ r ≡ record { connection = answeredIn control queue state streams left; answer = Answered summary (control .sent + 1) } ⌝ }
 {
-    let state = control.state;
-    let streams = control.streams;
-    let after = streams_after(outcome, state, streams, first);
-    let new = new_state(outcome, state, first, after.count);
-    if states::is_in(new, State::Defunct) {
-        return sum_up(control, queue, new, after, 0, summary);
+    let connection = changes::answered(control, queue, state, streams, left);
+    let answer = Reported::Answered {
+        summary: summary,
+        number: control.sent + 1,
+    };
+    AfterReport {
+        connection: connection,
+        answer: answer,
     }
-    sum_up(control, queue, new, after, control.waiting - 1, summary)
 }
 
-// The outcome of the first request.
-fn report_first(control: Control, queue: Queue, outcome: Outcome) -> AfterReport
-    requires { ⌜ Reporting control queue ⌝ }
-    ensures { λ r. ⌜ toldReport r ≡ carried (joined control queue) (reportFirst outcome (kept (joined control queue)) (front queue (control .waiting))) ⌝ }
+fn answer(control: Control, queue: Queue, answer: Reported) -> AfterReport
+    ensures { λ r. ⌜ r ≡ record { connection = joined control queue; answer = answer } ⌝ }
 {
-    let first = queue::first(queue);
-    if !fits(outcome, first) {
-        return answer(control, queue, Reported::Refused(Refusal::UnexpectedReport));
+    let connection = Connection {
+        control: control,
+        queue: queue,
+    };
+    AfterReport {
+        connection: connection,
+        answer: answer,
     }
-    let state = control.state;
-    let streams = control.streams;
-    let summary = summary_of(outcome, state, streams.next, first);
-    if states::is_in(state, State::Interrupted) {
-        return sum_up(control, queue, state, streams, control.waiting - 1, summary);
-    }
-    settle(control, queue, first, outcome, summary)
-}
-
-// The same on the parts of a record.
-pub fn step(control: Control, queue: Queue, outcome: Outcome) -> AfterReport
-    ensures { λ r. ⌜ toldReport r ≡ reportOf (joined control queue) outcome ⌝ }
-{
-    if !rules::keeps_rules(control, queue) {
-        return answer(control, queue, Reported::Refused(Refusal::InvalidRecord));
-    }
-    let state = control.state;
-    if states::is_in(state, State::Defunct) {
-        return answer(
-            control,
-            queue,
-            Reported::Refused(Refusal::ConnectionDefunct),
-        );
-    }
-    if !control.in_flight {
-        return answer(control, queue, Reported::Refused(Refusal::UnexpectedReport));
-    }
-    if control.waiting == 0 {
-        return answer(control, queue, Reported::Refused(Refusal::UnexpectedReport));
-    }
-    report_first(control, queue, outcome)
-}
-
-// Brings the engine's outcome for the request in flight.
-pub fn report(connection: Connection, outcome: Outcome) -> AfterReport
-    ensures { λ r. ⌜ toldReport r ≡ reportOf connection outcome ⌝ }
-{
-    let control = connection.control;
-    let queue = connection.queue;
-    step(control, queue, outcome)
 }

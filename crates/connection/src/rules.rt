@@ -1,4 +1,5 @@
-// The standing rules of document 01, "Connection record". Each call checks them first.
+// The standing rules of document 01, "Connection record": a check for each clause. Each call checks them all before anything else, so that no
+// call ever works on a record that another program has spoilt.
 use super::queue;
 use super::record::Control;
 use super::record::Queue;
@@ -13,7 +14,7 @@ ghost use mathlib.Core.Path.{_≡_};
 ghost use mathlib.Core.Bool.{Bool·beq};
 ghost use Prim.Native.Nat.{_≤_};
 ghost use Rattle.connection.specs.Requests.{kindOf};
-ghost use Rattle.connection.specs.Rules.{works, isHanded, mayBeInFlight, flightRule, countsRule, stateRules};
+ghost use Rattle.connection.specs.Rules.{works, isHanded, mayBeInFlight, openRule, resetRule, flightRule, countsRule, stateRules};
 ghost use Rattle.connection.specs.Record.{joined, openOf, front, kept, keepsRules};
 
 // Whether both hold, or neither.
@@ -101,6 +102,25 @@ fn counts_hold(state: State, waiting: usize, accepted: u64, sent: u64) -> bool
     accepted - sent == waiting as u64
 }
 
+// None open but in STREAMING, whose one stream has no number, and in TX_STREAMING.
+fn open_holds(state: State, streams: Streams) -> bool
+    requires { ⌜ streams .count ≤ 8 ⌝ }
+    ensures { λ r. ⌜ r ≡ openRule state (openOf streams) ⌝ }
+{
+    are_alike(states::is_in(state, State::TxStreaming), 1 <= streams.count)
+}
+
+// INTERRUPTED exactly if a RESET waits.
+fn reset_holds(state: State, queue: Queue, waiting: usize) -> bool
+    requires { ⌜ waiting ≤ 32 ⌝ }
+    ensures { λ r. ⌜ r ≡ resetRule state (front queue waiting) ⌝ }
+{
+    are_alike(
+        states::is_in(state, State::Interrupted),
+        queue::has_reset(queue, 0, waiting),
+    )
+}
+
 // The rules that tie the state to the streams, the queue and the counts.
 fn state_holds(control: Control, queue: Queue) -> bool
     requires { ⌜ (control .waiting ≤ 32) × (control .streams .count ≤ 8) ⌝ }
@@ -108,13 +128,10 @@ fn state_holds(control: Control, queue: Queue) -> bool
 {
     let state = control.state;
     let streams = control.streams;
-    if !are_alike(states::is_in(state, State::TxStreaming), 1 <= streams.count) {
+    if !open_holds(state, streams) {
         return false;
     }
-    if !are_alike(
-        states::is_in(state, State::Interrupted),
-        queue::has_reset(queue, 0, control.waiting),
-    ) {
+    if !reset_holds(state, queue, control.waiting) {
         return false;
     }
     if !flight_holds(control, queue) {

@@ -1,4 +1,4 @@
-// Tests of a state.
+// Tests of a state, and where each request is handed over.
 use super::record::State;
 ghost use mathlib.Core.Path.{_≡_};
 ghost use mathlib.Core.Bool.{_||_};

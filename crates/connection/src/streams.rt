@@ -1,4 +1,5 @@
-// The numbered streams of a transaction.
+// The numbered streams of a transaction. The open numbers stand at the front of their array, and `count` says how many they are; what the
+// other places hold stays as it is and never matters.
 use super::record::Streams;
 ghost use mathlib.Core.Path.{_≡_};
 ghost use mathlib.Core.List.{[]};

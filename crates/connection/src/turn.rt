@@ -1,4 +1,5 @@
-// What becomes of a request whose turn comes: document 01, "Take", and 003's appendix.
+// What becomes of a request whose turn comes: document 01, "Connection record", Take, and the rows of 003's appendix. Whatever no row names
+// closes the connection.
 use super::record::Request;
 use super::record::State;
 use super::record::Streams;

@@ -53,7 +53,7 @@ fn is_width(width: usize) -> bool
 }
 
 // Whether a slice of that length has `width` bytes from `at` on.
-fn in_bounds(length: usize, at: usize, width: usize) -> bool
+pub fn in_bounds(length: usize, at: usize, width: usize) -> bool
     ensures { λ r. ⌜ r ≡ leb (at + width) length ⌝ }
 {
     if length < at {

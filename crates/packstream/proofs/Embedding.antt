@@ -18,9 +18,10 @@ use Rattle.numbers.specs.Access.{unsignedAt}
 use Rattle.numbers.specs.declared.Unsigned.the-variants as U
 use Rattle.numbers.proofs.Access.{unsigned-found, unsigned-number}
 use Rattle.packstream.specs.Value as Tree
-use Rattle.packstream.specs.Value.{Value, Items, item, no-items, Entries, entry, no-entries, relocate, relocateItems, relocateEntries}
+use Rattle.packstream.specs.Value.{Value, Items, no-items, Entries, no-entries, relocate, relocateItems, relocateEntries}
 use Rattle.packstream.specs.Marker.{markerOf, hasSize}
-use Rattle.packstream.specs.Decode.{Parse, parsed, failed, andThen, mapped, sizeAt, extentAt, keyExtentAt, isText, leafValue, leafAt, KeyText, repeats, keyOf, keyAt, items, entries, containerAt, valueAt}
+use Rattle.packstream.specs.Decode.{Parse, parsed, mapped, sizeAt, extentAt, keyExtentAt, isText, leafValue, KeyText, repeats, keyAt, items, entries, valueAt}
+use Rattle.packstream.specs.Embedding.{Lies, ReadAlike}
 use Rattle.packstream.specs.declared.marker.Leaf.{Leaf}
 use Rattle.packstream.specs.declared.marker.Leaf.the-variants as L
 use Rattle.packstream.specs.declared.marker.Container.{Container}
@@ -37,7 +38,7 @@ use Rattle.packstream.proofs.Leaves.{boolean-size, leaf-text}
 use Rattle.packstream.proofs.KeySearch as Keys
 use Rattle.packstream.proofs.KeySearch.{KeyTells, key-tells, key-is, leaf-key-inside}
 use Rattle.packstream.proofs.Steps as Steps
-use Rattle.packstream.proofs.Steps.{FirstItem, first-item, FirstEntry, first-entry, ValueTells, value-tells, by-leaf, by-container}
+use Rattle.packstream.proofs.Steps.{first-item, first-entry, ValueTells, value-tells, by-leaf, by-container}
 
 clash : _≡_ {A = ℕ} 0 1 → ⊥
 clash e = omega arith
@@ -48,11 +49,6 @@ drop-take zero n l = let e : n - 0 ≡ n = omega arith in rw e
 drop-take (suc p) zero l = let e : 0 - suc p ≡ 0 = omega arith in rw e
 drop-take (suc p) (suc n) [] = sym (take-nil (suc n - suc p))
 drop-take (suc p) (suc n) (x ∷ l) = let e : suc n - suc p ≡ n - p = omega arith in rw e (drop-take p n l)
-
--- s lies in t from k on
-pub record Lies (s t : List ℕ) (k : ℕ) : Type 0 where
-  pub bytes : part t k (length s) ≡ s
-  pub inside : k + length s ≤ length t
 
 module _ (s t : List ℕ) (k : ℕ) (lies : Lies s t k) where
   -- ---- bytes and parts
@@ -223,7 +219,8 @@ module _ (s t : List ℕ) (k : ℕ) (lies : Lies s t k) where
         ∙ rw (lt-ltb (k + p) (length t) (omega (arith, lies .inside, r)), byte p r, c)
         (ap (mapped (Tree.structure (getD s p 0))) (items-embed (valueAt s (d - 1)) (valueAt t (e - 1)) (inner one) n (p + 1) vs end h)))
 
-  pub value-embeds : (d e : ℕ) → d ≤ e → (at : ℕ) (v : Value) (q : ℕ) → valueAt s d at ≡ parsed v q → valueAt t e (k + at) ≡ parsed (relocate moved v) (k + q)
+  -- every value is read alike
+  pub value-embeds : ReadAlike s t k
   value-embeds zero e l at v q f = value-step zero e l (λ h p w r g. absurd (none h)) at (value-tells s zero at) v q f
     where
       none : 1 ≤ 0 → ⊥

@@ -1,11 +1,11 @@
 -- Laws of extents: what the code's tests make of them, and what holds of every one. Assumes nothing.
 use mathlib.Core.Path.{_≡_, refl, sym, ap, _∙_, subst}
 use mathlib.Core.Logic.{inl, inr}
-use mathlib.Core.Bool.{Bool, true, false, not, cond, true≢false, false≢true}
+use mathlib.Core.Bool.{Bool, true, false, not, cond, false≢true}
 use mathlib.Core.List.{List, [], _∷_}
 use Prim.Native.Nat.{ℕ, zero, suc, _+_, _-_, _^_, _≤_, _<_}
 use native.Mathlib.Omega.{arith}
-use lib.Dec.{ltb, leb, eqb}
+use lib.Dec.{ltb, eqb}
 use lib.ListN.{length, getD}
 use borrow.Author.Tests.{lt-ltb, le-ltb, ltb-true, eq-eqb, ne-eqb, eqb-true, eqb-false}
 use denote.Enum.Declared.{tagOf}
@@ -31,7 +31,7 @@ use Rattle.packstream.specs.declared.marker.Kind.the-variants as K
 use Rattle.packstream.specs.declared.marker.Marker.{Marker}
 use Rattle.packstream.specs.declared.extent.Extent.{Extent}
 use Rattle.packstream.specs.declared.extent.Extent.the-variants as E
-use Rattle.packstream.proofs.Markers.{tellsSize, skip-one, SoundLeaf, sound-leaf, SoundContainer, sound-container}
+use Rattle.packstream.proofs.Markers.{tellsSize, SoundLeaf, sound-leaf, SoundContainer, sound-container}
 
 -- ---- sizes
 module _ (s : List ℕ) (at : ℕ) (m : Marker) where

@@ -1,15 +1,14 @@
 -- Laws of keys: of the search for an equal one, and of the scratch that keeps where their contents lie. Assumes nothing.
 use mathlib.Core.Path.{_≡_, refl, sym, ap, _∙_, subst}
 use mathlib.Core.Logic.{⊎-elim}
-use mathlib.Core.Bool.{Bool, true, false, cond, _&&_, _||_, and-false}
+use mathlib.Core.Bool.{Bool, true, false, cond, _||_, and-false}
 use mathlib.Core.List.{List, [], _∷_}
-use Prim.Native.Nat.{ℕ, zero, suc, _+_, _-_, _*_, _≤_, _<_}
+use Prim.Native.Nat.{ℕ, zero, suc, _+_, _-_, _≤_, _<_}
 use native.Mathlib.Nat.{not-suc-le-zero, le-of-suc-le-suc, eq-or-lt-of-le}
-use native.Mathlib.Numerals.{add-one}
 use native.Mathlib.Omega.{arith}
 use borrow.Author.Tests.{eq-eqb, ne-eqb}
 use lib.Dec.{eqb}
-use lib.ListN.{length, getD, take}
+use lib.ListN.{length, getD}
 use Rattle.slices.specs.Parts.{part}
 use Rattle.slices.proofs.Parts.{length-part, part-cons}
 use Rattle.utf8.specs.Utf8.{utf8}
@@ -20,7 +19,6 @@ use Rattle.packstream.specs.Keys.{keyOfParse, startOf, sizeOf, keysOf, K
 use Rattle.packstream.specs.declared.marker.Leaf.{Leaf}
 use Rattle.packstream.specs.declared.extent.Extent.{Extent}
 use Rattle.packstream.specs.declared.extent.Extent.the-variants as E
-use Rattle.packstream.specs.declared.extent.Key.{Key}
 use Rattle.packstream.specs.declared.extent.Key.the-variants as Y
 use Rattle.packstream.proofs.Extents.{Inside, key-inside}
 

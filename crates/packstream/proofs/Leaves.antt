@@ -1,9 +1,8 @@
 -- Laws of values that hold no other. Assumes nothing.
-use mathlib.Core.Path.{_≡_, refl, sym, ap, _∙_, subst}
+use mathlib.Core.Path.{_≡_, refl, sym, ap, subst}
 use mathlib.Core.Bool.{Bool, true, false, cond}
 use mathlib.Core.List.{List}
-use Prim.Native.Nat.{ℕ, _+_, _≤_, _<_}
-use native.Mathlib.Omega.{arith}
+use Prim.Native.Nat.{ℕ, _+_, _≤_}
 use borrow.Author.Tests.{eqb-true}
 use denote.Enum.Declared.{tagOf}
 use lib.Dec.{eqb}
@@ -20,14 +19,11 @@ use Rattle.numbers.proofs.Signed as Sg
 use Rattle.numbers.proofs.Access.{unsigned-number, signed-number}
 use Rattle.refusal.specs.declared.Refusal.the-variants.{InvalidUtf8}
 use Rattle.packstream.specs.Marker.{hasSize}
-use Rattle.packstream.specs.Decode.{Parse, parsed, failed, isText, leafValue, leafAt}
-use Rattle.packstream.specs.Reading.{headOf, readingOf}
+use Rattle.packstream.specs.Decode.{parsed, failed, isText, leafValue, leafAt}
+use Rattle.packstream.specs.Reading.{headOf}
 use Rattle.packstream.specs.declared.marker.Leaf.{Leaf}
 use Rattle.packstream.specs.declared.marker.Leaf.the-variants as L
-use Rattle.packstream.specs.declared.read.Head.{Head}
 use Rattle.packstream.specs.declared.read.Head.the-variants as H
-use Rattle.packstream.specs.declared.read.Reading.{Reading}
-use Rattle.packstream.specs.declared.read.Reading.the-variants as R
 use Rattle.packstream.proofs.Extents.{NoNumber, not-first}
 
 -- a read of bytes that are there finds a number

@@ -6,6 +6,12 @@ pub mod Scratch
 pub mod Steps
 pub mod Answers
 pub mod Passing
+pub mod Packing
+pub mod Here
+pub mod Headers
+pub mod RoundTrip
+pub mod Forms
+pub mod Shortest
 pub mod Offsets
 pub mod Embedding
 pub mod Placement

@@ -1,6 +1,5 @@
 -- Laws of a value's offsets: put through a function that changes nothing, and forgotten after they were moved. Assumes nothing.
-use mathlib.Core.Path.{_≡_, refl, ap, ap₂, _∙_}
-use mathlib.Core.List.{List}
+use mathlib.Core.Path.{_≡_, refl, ap}
 use Prim.Native.Nat.{ℕ}
 use Rattle.packstream.specs.Value.{Value, null, boolean, integer, float, bytes, string, list, dictionary, structure, Items, no-items, item, Entries, no-entries, entry, relocate, relocateItems, relocateEntries, forget}
 

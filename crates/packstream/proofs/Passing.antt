@@ -1,8 +1,8 @@
 -- Laws of the walk: heads from extents, and steps past values. Assumes nothing.
-use mathlib.Core.Path.{_≡_, refl, sym, ap, _∙_}
-use mathlib.Core.Bool.{Bool, true, false, cond}
+use mathlib.Core.Path.{_≡_, sym, ap, _∙_}
+use mathlib.Core.Bool.{cond}
 use mathlib.Core.List.{List}
-use Prim.Native.Nat.{ℕ, zero, suc, _+_, _-_, _*_, _≤_, _<_}
+use Prim.Native.Nat.{ℕ, zero, suc, _+_, _-_, _≤_, _<_}
 use native.Mathlib.Omega.{arith}
 use borrow.Author.Tests.{lt-ltb, le-ltb}
 use lib.Dec.{ltb}
@@ -17,7 +17,6 @@ use Rattle.packstream.specs.declared.marker.Container.the-variants as C
 use Rattle.packstream.specs.declared.extent.Extent.{Extent}
 use Rattle.packstream.specs.declared.extent.Extent.the-variants as E
 use Rattle.packstream.specs.declared.read.Head.the-variants as H
-use Rattle.packstream.specs.declared.walk.Peeked.{Peeked}
 use Rattle.packstream.specs.declared.walk.Peeked.the-variants as P
 use Rattle.packstream.specs.declared.walk.Skipped.{Skipped}
 use Rattle.packstream.specs.declared.walk.Skipped.the-variants as S

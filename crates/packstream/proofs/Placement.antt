@@ -1,17 +1,16 @@
 -- Where the parts of a value that was read lie, as `specs/Placement.antt` states it. Assumes nothing.
 use mathlib.Core.Path.{_≡_, refl, sym, ap, _∙_, subst}
-use mathlib.Core.Bool.{true, cond}
 use mathlib.Core.List.{List, [], _∷_}
-use Prim.Native.Nat.{ℕ, zero, suc, _+_, _-_, _*_, _≤_, _<_}
+use Prim.Native.Nat.{ℕ, zero, suc, _+_, _-_, _*_, _≤_}
 use native.Mathlib.Omega.{arith}
-use lib.ListN.{length, getD}
+use lib.ListN.{getD}
 use Rattle.slices.specs.Parts.{part}
 use Rattle.slices.proofs.Parts.{length-part}
 use Rattle.packstream.specs.Value as Tree
-use Rattle.packstream.specs.Value.{Value, Items, no-items, item, Entries, no-entries, entry, count, countEntries, first, firstEntry}
-use Rattle.packstream.specs.Decode.{Parse, parsed, failed, extentAt, keyExtentAt, isText, leafValue, KeyText, keyAt, items, entries, valueAt, mostOpen}
+use Rattle.packstream.specs.Value.{Value, Items, no-items, Entries, no-entries}
+use Rattle.packstream.specs.Decode.{Parse, parsed, failed, extentAt, leafValue, KeyText, keyAt, items, entries, valueAt, mostOpen}
 use Rattle.packstream.specs.Reading.{headOf}
-use Rattle.packstream.specs.Walk.{peekAt, skipThen, past, skipWithin, skipAt}
+use Rattle.packstream.specs.Walk.{peekAt, skipThen, past, skipWithin}
 use Rattle.packstream.specs.Placement.{Reads, ItemsLie, ContentLies, KeyLies, EntriesLie, PartsLie, Placement}
 use Rattle.packstream.specs.declared.marker.Leaf.{Leaf}
 use Rattle.packstream.specs.declared.marker.Leaf.the-variants as L
@@ -21,7 +20,7 @@ use Rattle.packstream.specs.declared.read.Head.the-variants as H
 use Rattle.packstream.specs.declared.walk.Peeked.the-variants as P
 use Rattle.packstream.specs.declared.walk.Skipped.{Skipped}
 use Rattle.packstream.specs.declared.walk.Skipped.the-variants as S
-use Rattle.packstream.proofs.Extents.{Inside, extent-inside, key-inside, key-as-string, room-for}
+use Rattle.packstream.proofs.Extents.{Inside, extent-inside, key-as-string, room-for}
 use Rattle.packstream.proofs.Leaves.{string-head}
 use Rattle.packstream.proofs.KeySearch as Keys
 use Rattle.packstream.proofs.KeySearch.{KeyTells, key-tells}

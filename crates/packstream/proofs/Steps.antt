@@ -22,7 +22,6 @@ use Rattle.packstream.specs.declared.extent.Extent.{Extent}
 use Rattle.packstream.specs.declared.extent.Extent.the-variants as E
 use Rattle.packstream.specs.declared.read.Head.{Head}
 use Rattle.packstream.specs.declared.read.Head.the-variants as H
-use Rattle.packstream.specs.declared.read.Reading.{Reading}
 use Rattle.packstream.specs.declared.read.Reading.the-variants as R
 use Rattle.packstream.proofs.Extents.{Inside, extent-inside, key-inside, room-for}
 use Rattle.packstream.proofs.Leaves.{leaf-text, leaf-no-text}

@@ -1,5 +1,6 @@
 -- Values at the edges: document 01, "Cases at the edges", with some more of our own, in one table under one statement. Assumes nothing.
 use mathlib.Core.Path.{_≡_, refl}
+use mathlib.Core.Bool.{true}
 use mathlib.Core.List.{List, [], _∷_, _++_, map}
 use Prim.Native.Nat.{ℕ}
 use lib.Count.{leadingZeros}
@@ -10,7 +11,7 @@ use Rattle.numbers.specs.TwosComplement.{twos}
 use Rattle.numbers.specs.Access.{unsignedAt}
 use Rattle.utf8.specs.Utf8.{utf8, sequencesFrom, sequence, completes}
 use Rattle.refusal.specs.Answer.{Answer, result, refused}
-use Rattle.packstream.specs.Value.{Value, integer, string, dictionary, structure, no-items, item, no-entries, entry}
+use Rattle.packstream.specs.Value.{Value, boolean, integer, float, string, dictionary, structure, no-items, item, no-entries, entry}
 use Rattle.packstream.specs.Marker.{markerOf, lookup}
 use Rattle.packstream.specs.Decode.{decode, messageOf, valueIn, valueAt, items, entries, keyAt, keyExtentAt, extentAt, leafExtent, containerExtent, leafAt, leafValue, same, repeats}
 
@@ -36,6 +37,14 @@ cases =
     ∷ is (0x82 ∷ 0xC3 ∷ 0xA9 ∷ []) (result (string 1 (0xC3 ∷ 0xA9 ∷ [])))
     ∷ is (0xB1 ∷ 0x70 ∷ 0xA1 ∷ 0x83 ∷ 0x71 ∷ 0x69 ∷ 0x64 ∷ 0x05 ∷ [])
     (result (structure 0x70 (item 2 (dictionary (entry 3 4 (0x71 ∷ 0x69 ∷ 0x64 ∷ []) 7 (integer (pos 5)) no-entries)) no-items)))
+    -- longer forms than needed, and the 64 bits of a Float
+    ∷ is (0xC9 ∷ 0xFF ∷ 0xFF ∷ []) (result (integer (negsuc 0)))
+    ∷ is (0xCA ∷ 0x00 ∷ 0x00 ∷ 0x00 ∷ 0x80 ∷ []) (result (integer (pos 128)))
+    ∷ is (0xD1 ∷ 0x00 ∷ 0x01 ∷ 0x61 ∷ []) (result (string 3 (0x61 ∷ [])))
+    ∷ is (0xC1 ∷ 0x3F ∷ 0xF0 ∷ 0 ∷ 0 ∷ 0 ∷ 0 ∷ 0 ∷ 0 ∷ []) (result (float 0x3FF0000000000000))
+    -- the same key in two dictionaries, one inside the other
+    ∷ is (0xA1 ∷ 0x81 ∷ 0x61 ∷ 0xA1 ∷ 0x81 ∷ 0x61 ∷ 0xC3 ∷ [])
+    (result (dictionary (entry 1 2 (0x61 ∷ []) 3 (dictionary (entry 4 5 (0x61 ∷ []) 6 (boolean true) no-entries)) no-entries)))
     -- a missing marker's place is the message length; a key that is no String; a tag that is missing
     ∷ is (0x92 ∷ 0x01 ∷ []) (refused 7 2)
     ∷ is (0xA1 ∷ 0x90 ∷ []) (refused 11 1)

@@ -45,6 +45,7 @@ leafExtent s at k m =
     onSize at (sizeAt s at m) (λ n.
     cond (reaches s (at + m .skip + m .width) n) (E.Leaf k (at + m .skip + m .width) n) (E.Refused ValueTruncated at))
 
+-- nothing of what a container holds is looked at
 unfoldable pub containerExtent : List ℕ → ℕ → Container → Marker → Extent
 containerExtent s at k m = onSize at (sizeAt s at m) (λ n. E.Container k (at + m .skip + m .width) n)
 
@@ -67,6 +68,7 @@ keyKindExtent s at m K.Reserved = E.Refused ReservedMarker at
 keyKindExtent s at m (K.Leaf k) = cond (isString k) (leafExtent s at k m) (E.Refused KeyNotString at)
 keyKindExtent s at m (K.Container k) = E.Refused KeyNotString at
 
+-- a key's marker missing: 7, as a value's
 unfoldable pub keyExtentAt : List ℕ → ℕ → Extent
 keyExtentAt s at =
     cond (ltb at (length s))
@@ -138,10 +140,11 @@ keyOf s seen at (E.Leaf k p n) =
 keyOf s seen at (E.Container k p n) = failed KeyNotString at
 keyOf s seen at (E.Refused why place) = failed why place
 
+-- the key at `at`; `seen` are the keys before it in this dictionary
 unfoldable pub keyAt : List ℕ → List (List ℕ) → ℕ → Parse KeyText
 keyAt s seen at = keyOf s seen at (keyExtentAt s at)
 
--- n entries from `at` on, each value read by f; `seen` are the keys before them in this dictionary
+-- n entries from `at` on, each value read by f
 unfoldable pub entries : List ℕ → (ℕ → Parse Value) → List (List ℕ) → ℕ → ℕ → Parse Entries
 entries s f seen zero at = parsed no-entries at
 entries s f seen (suc n) at =
@@ -159,6 +162,7 @@ containerAt s f at C.List p n = mapped list (items f n p)
 containerAt s f at C.Dictionary p n = mapped dictionary (entries s f [] n p)
 containerAt s f at C.Structure p n = structureAt s f at p n
 
+-- the value at an extent; f reads what a container holds
 abbrev pub valueOf : List ℕ → (ℕ → Parse Value) → ℕ → Extent → Parse Value
 valueOf s f at (E.Leaf k p n) = leafAt s at k p n
 valueOf s f at (E.Container k p n) = containerAt s f at k p n

@@ -12,10 +12,11 @@ abbrev pub keyOfParse : Parse KeyText → Key
 keyOfParse (parsed k end) = Y.String (k .start) (length (k .content))
 keyOfParse (failed why place) = Y.Refused why place
 
--- the start and the size of the i-th content that the scratch has from `base` on
+-- where the i-th content starts that the scratch has from `base` on
 abbrev pub startOf : List ℕ → ℕ → ℕ → ℕ
 startOf scratch base i = getD scratch (base + 2 * i) 0
 
+-- its size, in the place after
 abbrev pub sizeOf : List ℕ → ℕ → ℕ → ℕ
 sizeOf scratch base i = getD scratch (base + 2 * i + 1) 0
 

@@ -5,4 +5,8 @@ pub mod Keys
 pub mod Reading
 pub mod Walk
 pub mod Placement
+pub mod Embedding
 pub mod Cases
+pub mod Packing
+pub mod RoundTrip
+pub mod Shortest

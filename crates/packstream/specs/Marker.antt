@@ -6,7 +6,6 @@ use lib.Dec.{leb, eqb}
 use Rattle.numbers.specs.Access.{isWidth}
 use Rattle.packstream.specs.declared.marker.Leaf.{Leaf}
 use Rattle.packstream.specs.declared.marker.Leaf.the-variants.{Null, Boolean, Integer, Float, Bytes, String}
-use Rattle.packstream.specs.declared.marker.Container.{Container}
 use Rattle.packstream.specs.declared.marker.Container.the-variants.{List as ListKind, Dictionary, Structure}
 use Rattle.packstream.specs.declared.marker.Kind.{Kind}
 use Rattle.packstream.specs.declared.marker.Kind.the-variants as K
@@ -38,12 +37,15 @@ pub record Row : Type 0 where
   pub to : ℕ
   pub form : ℕ → Marker
 
+-- from one marker on to another
 abbrev pub run : ℕ → ℕ → (ℕ → Marker) → Row
 run from to form = record { from = from; to = to; form = form }
 
+-- a run of one
 abbrev pub one : ℕ → (ℕ → Marker) → Row
 one m form = run m m form
 
+-- the table, kind by kind
 abbrev pub table : List Row
 table =
     -- Null, False, True
@@ -86,9 +88,11 @@ unfoldable pub lookup : List Row → ℕ → Marker
 lookup [] m = reserved
 lookup (r ∷ rs) m = cond (leb (r .from) m && leb m (r .to)) (r .form (m % 16)) (lookup rs m)
 
+-- what a marker stands for
 unfoldable pub markerOf : ℕ → Marker
 markerOf m = lookup table m
 
+-- only a String has to be text
 abbrev pub isString : Leaf → Bool
 isString Null = false
 isString Boolean = false

@@ -28,6 +28,7 @@ pub record Found : Type 0 where
   pub head : Head
   pub end : ℕ
 
+-- of this value, ending here
 abbrev pub foundAt : ℕ → Value → Found
 foundAt end v = record { head = headOf v end; end = end }
 

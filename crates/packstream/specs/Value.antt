@@ -30,11 +30,12 @@ mutual
     no-entries : Entries
     entry : ℕ → ℕ → List ℕ → ℕ → Value → Entries → Entries
 
--- how many there are
+-- how many items there are
 unfoldable pub count : Items → ℕ
 count no-items = zero
 count (item at v vs) = suc (count vs)
 
+-- how many entries there are
 unfoldable pub countEntries : Entries → ℕ
 countEntries no-entries = zero
 countEntries (entry at start key place v es) = suc (countEntries es)
@@ -44,6 +45,7 @@ abbrev pub first : Items → ℕ → ℕ
 first no-items end = end
 first (item at v vs) end = at
 
+-- the same of entries
 abbrev pub firstEntry : Entries → ℕ → ℕ
 firstEntry no-entries end = end
 firstEntry (entry at start key place v es) end = at

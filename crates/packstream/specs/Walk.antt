@@ -1,5 +1,5 @@
--- What is found in a message that was read already, with no look at text or at repeated keys. The laws (`proofs/Placement.antt`) say that where a
--- value can be read, its own head and end are found. Assumes nothing.
+-- What is found in a message that was read already, with no look at text or at keys that repeat. Where a value can be read, its own head and
+-- its own end are found (`Placement`). Assumes nothing.
 use Prim.Native.Nat.{ℕ, zero, suc, _+_, _*_}
 use mathlib.Core.Bool.{cond}
 use mathlib.Core.List.{List}
@@ -28,6 +28,7 @@ peekOf s (E.Refused why place) = P.Nothing
 unfoldable pub peekAt : List ℕ → ℕ → Peeked
 peekAt s at = peekOf s (extentAt s mostOpen at)
 
+-- one step, then the next
 abbrev pub skipThen : Skipped → (ℕ → Skipped) → Skipped
 skipThen (S.To end) f = f end
 skipThen S.Nothing f = S.Nothing
@@ -45,6 +46,7 @@ skipOf s f (E.Container C.Dictionary p n) = past f (2 * n) p
 skipOf s f (E.Container C.Structure p n) = cond (ltb p (length s)) (past f n (p + 1)) S.Nothing
 skipOf s f (E.Refused why place) = S.Nothing
 
+-- with room for so many open containers
 unfoldable pub skipWithin : List ℕ → ℕ → ℕ → Skipped
 skipWithin s zero at = skipOf s (λ p. S.Nothing) (extentAt s zero at)
 skipWithin s (suc depth) at = skipOf s (λ p. skipWithin s depth p) (extentAt s (suc depth) at)

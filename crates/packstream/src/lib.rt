@@ -3,6 +3,7 @@ pub mod extent;
 mod keys;
 mod leaf;
 pub mod marker;
+pub mod pack;
 pub mod read;
 mod value;
 pub mod walk;

@@ -61,7 +61,7 @@ fn itself(kind: Leaf) -> Marker
     }
 }
 
-// The marker's kind says or the marker holds the size.
+// The marker tells the size.
 fn small(kind: Kind, size: usize) -> Marker
     ensures { λ r. ⌜ r ≡ small kind size ⌝ }
 {

@@ -37,7 +37,7 @@ pub enum Reading {
 }
 
 // At most so many containers may be open.
-const MOST_OPEN: usize = 16;
+pub const MOST_OPEN: usize = 16;
 
 // A message has at most so many bytes.
 const MOST_BYTES: usize = 16384;

@@ -6,6 +6,7 @@ use crate::extent::extent_at;
 use crate::leaf::leaf_head;
 use crate::marker::Container;
 use crate::read::Head;
+use crate::read::MOST_OPEN;
 
 // What stands at an offset of a message that was read already.
 pub enum Peeked {
@@ -20,9 +21,6 @@ pub enum Skipped {
     // No value begins there.
     Nothing,
 }
-
-// At most so many containers are open in a message that was read.
-const MOST_OPEN: usize = 16;
 
 // The head of the value at `at` of a message that was read already: no text is checked again.
 pub fn peek(message: &[u8], at: usize) -> Peeked

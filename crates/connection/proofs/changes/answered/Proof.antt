@@ -3,8 +3,6 @@ use borrow.Author.Needs.{needs}
 use mathlib.Core.Path.{ap}
 use mathlib.Core.Bool.{false}
 use Prim.Native.Nat.{_+_}
-use Rattle.connection.specs.declared.record.Control.{Control}
-use Rattle.connection.specs.declared.record.Queue.{Queue}
 use Rattle.connection.specs.Record.{joined}
 use Rattle.connection.proofs.changes.answered.Statement.{statement}
 use Rattle.connection.proofs.changes.answered.Tie as tie

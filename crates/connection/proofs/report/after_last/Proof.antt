@@ -1,7 +1,8 @@
 -- `connection::report::after_last` meets its contract: by the tests passed. Assumes nothing.
 use borrow.Author.Needs.{needs}
-use mathlib.Core.Path.{sym, _∙_}
+use mathlib.Core.Path.{refl, sym, _∙_}
 use borrow.Author.Tests.{eq-eqb, ne-eqb}
+use Rattle.connection.proofs.Outcomes.{last-by}
 use Rattle.connection.proofs.report.after_last.Statement.{statement}
 use Rattle.connection.proofs.report.after_last.Tie as tie
 
@@ -9,13 +10,13 @@ is-in-requires : tie.Need-is-in-requires
 is-in-requires c κs = search needs
 
 returns : tie.Need-returns
-returns c = rw (eq-eqb _ _ (c .before .before .if1 .taken), sym (c .before .is-in .ensures) ∙ c .if2 .taken)
+returns c = let a = c .before .before .before .args in last-by (a .state) (a .left) (eq-eqb (a .left) 0 (c .before .before .if1 .taken)) (sym (c .before .is-in .ensures) ∙ c .if2 .taken)
 
 returns-2 : tie.Need-returns-2
-returns-2 c = rw (eq-eqb _ _ (c .before .before .if1 .taken), sym (c .before .is-in .ensures) ∙ c .if2 .left)
+returns-2 c = let a = c .before .before .before .args in last-by (a .state) (a .left) (eq-eqb (a .left) 0 (c .before .before .if1 .taken)) (sym (c .before .is-in .ensures) ∙ c .if2 .left)
 
 returns-3 : tie.Need-returns-3
-returns-3 c = rw (ne-eqb _ _ (c .if1 .left))
+returns-3 c = let a = c .before .args in last-by (a .state) (a .left) (ne-eqb (a .left) 0 (c .if1 .left)) refl
 
 pub after-last-spec : {M : Type 1} → statement M
 after-last-spec = tie.close (tie.spec is-in-requires returns returns-2 returns-3)

@@ -1,8 +1,7 @@
 -- `connection::report::after_success` meets its contract: in each arm the match told which request it is. Assumes nothing.
 use borrow.Author.Needs.{needs}
-use mathlib.Core.Path.{_≡_, refl, sym, ap, _∙_}
+use mathlib.Core.Path.{refl, sym, ap, _∙_}
 use mathlib.Core.Bool.{Bool, cond}
-use Rattle.connection.specs.declared.record.State.{State}
 use Rattle.connection.specs.declared.record.State.the-variants.{Ready, Streaming, TxReady, TxStreaming}
 use Rattle.connection.specs.Requests.{HELLO, GOODBYE, RESET, RUN, BEGIN, COMMIT, ROLLBACK, DISCARD, PULL}
 use Rattle.connection.proofs.Outcomes.{state-by}

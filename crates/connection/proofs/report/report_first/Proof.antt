@@ -1,16 +1,21 @@
 -- `connection::report::report_first` meets its contract: by the tests passed. Assumes nothing.
 use borrow.Author.Needs.{needs}
 use mathlib.Core.Path.{_≡_, sym, ap, _∙_}
-use mathlib.Core.Bool.{true}
+use mathlib.Core.Bool.{Bool, true, cond}
 use Prim.Native.Nat.{_-_}
 use native.Mathlib.Omega.{arith}
 use borrow.Author.Tests.{not-true, not-false}
 use Rattle.refusal.specs.Answer.{result}
+use Rattle.connection.specs.declared.record.State.the-variants.{Interrupted}
 use Rattle.connection.specs.declared.record.Request.{Request}
+use Rattle.connection.specs.declared.record.Queue.{Queue}
+use Rattle.connection.specs.declared.record.Control.{Control}
+use Rattle.connection.specs.declared.answers.Outcome.{Outcome}
 use Rattle.connection.specs.declared.answers.Summary.{Summary}
-use Rattle.connection.specs.Table.{Done, answer, fitting, summaryOf}
+use Rattle.connection.specs.Requests.{inState}
+use Rattle.connection.specs.Table.{Done, answer, fitting, summaryOf, settled, reportFirst}
 use Rattle.connection.specs.Rules.{mayBeInFlight}
-use Rattle.connection.specs.Record.{joined, behind, openOf, kept, carried, toldReport}
+use Rattle.connection.specs.Record.{joined, front, behind, firstIn, openOf, kept, carried, toldReport}
 use Rattle.connection.specs.Parts.{settledIn}
 use Rattle.connection.proofs.Keeping.{Fits, answers}
 use Rattle.connection.proofs.Lengths.{slots, streams}
@@ -20,6 +25,34 @@ use Rattle.connection.proofs.Standing.{may-out}
 use Rattle.connection.proofs.Turns.{handed-facts}
 use Rattle.connection.proofs.report.report_first.Statement.{statement}
 use Rattle.connection.proofs.report.report_first.Tie as tie
+
+fit : (s : tie.Start) → Fits (s .args .control) (s .args .queue)
+fit s = record { places = slots (s .args .queue) _ (s .good .1 .0); numbers = streams (s .args .control) _ (s .good .0); few = s .pre .waits .short; fewer = s .pre .waits .few }
+
+-- the outcome fits the first request
+abbrev k : tie.After-summary-of → Control
+k d = d .before .before .before .before .before .args .control
+
+abbrev q : tie.After-summary-of → Queue
+q d = d .before .before .before .before .before .args .queue
+
+abbrev o : tie.After-summary-of → Outcome
+o d = d .before .before .before .before .before .args .outcome
+
+summed : (d : tie.After-summary-of) → d .summary-of .result ≡ summaryOf (o d) (k d .state) (k d .streams .next) (firstIn (q d))
+summed d = d .summary-of .ensures ∙ ap (summaryOf (o d) (k d .state) (k d .streams .next)) (d .before .before .before .before .first .ensures)
+
+-- and is answered for it
+reports : (d : tie.After-summary-of) {b : Bool} → inState (k d .state) Interrupted ≡ b
+    → carried (joined (k d) (q d))
+    (result (cond b (answer (kept (joined (k d) (q d))) (k d .state) (openOf (k d .streams)) (behind (q d) (k d .waiting - 1)) (summaryOf (o d) (k d .state) (k d .streams .next) (firstIn (q d))))
+    (settled (o d) (kept (joined (k d) (q d))) (firstIn (q d)) (behind (q d) (k d .waiting - 1)))))
+    ≡ carried (joined (k d) (q d)) (reportFirst (o d) (kept (joined (k d) (q d))) (front (q d) (k d .waiting)))
+reports d e =
+    let s = d .before .before .before .before .before in
+    ap (λ (x : Done). carried (joined (k d) (q d)) (result x)) (reported-by (k d) (q d) (fit s) (s .pre .waits .some) (o d) e)
+    ∙ first-by (k d) (q d) (fit s) (s .pre .waits .some) (o d)
+    (sym (d .before .before .before .fits2 .ensures ∙ ap (fitting (o d)) (d .before .before .before .before .first .ensures)) ∙ not-false _ (d .before .before .if1 .left))
 
 first-requires : tie.Need-first-requires
 first-requires c κs = search needs
@@ -33,11 +66,8 @@ answer-requires c κs = search needs
 returns : tie.Need-returns
 returns c =
     let s = c .before .before .before .before in
-    let k = s .args .control in
-    let q = s .args .queue in
-    let f : Fits k q = record { places = slots q _ (s .good .1 .0); numbers = streams k _ (s .good .0); few = s .pre .waits .short; fewer = s .pre .waits .few } in
-    let fit = sym (c .before .before .fits2 .ensures ∙ ap (fitting (s .args .outcome)) (c .before .before .before .first .ensures)) ∙ not-true _ (c .before .if1 .taken) in
-    ap toldReport (c .answer .ensures) ∙ first-by k q f (s .pre .waits .some) (s .args .outcome) fit
+    ap toldReport (c .answer .ensures)
+    ∙ first-by (s .args .control) (s .args .queue) (fit s) (s .pre .waits .some) (s .args .outcome) (sym (c .before .before .fits2 .ensures ∙ ap (fitting (s .args .outcome)) (c .before .before .before .first .ensures)) ∙ not-true _ (c .before .if1 .taken))
 
 summary-of-requires : tie.Need-summary-of-requires
 summary-of-requires c κs = c .before .before .before .before .pre .next
@@ -49,22 +79,17 @@ sub-sum-up : tie.Need-sub-sum-up
 sub-sum-up c = search needs
 
 sum-up-requires : tie.Need-sum-up-requires
-sum-up-requires c κs = let w = c .before .before .before .before .before .before .before .before .pre .waits in (omega (arith, w .short, w .some), w .below)
+sum-up-requires c κs = let p = c .before .before .before .before .before .before .before .before .pre .waits in (omega (arith, p .short, p .some), p .below)
 
 returns-2 : tie.Need-returns-2
 returns-2 c =
+    let d = c .before .before .before .before in
     let s = c .before .before .before .before .before .before .before .before .before in
-    let k = s .args .control in
-    let q = s .args .queue in
-    let o = s .args .outcome in
-    let f : Fits k q = record { places = slots q _ (s .good .1 .0); numbers = streams k _ (s .good .0); few = s .pre .waits .short; fewer = s .pre .waits .few } in
-    let fit = sym (c .before .before .before .before .before .before .before .fits2 .ensures ∙ ap (fitting o) (c .before .before .before .before .before .before .before .before .first .ensures)) ∙ not-false _ (c .before .before .before .before .before .before .if1 .left) in
-    let summary = c .before .before .before .before .summary-of .ensures ∙ ap (summaryOf o (k .state) (k .streams .next)) (c .before .before .before .before .before .before .before .before .first .ensures) in
+    let f = fit s in
     ap toldReport (c .sum-up .ensures)
-    ∙ answers k q f (s .pre .waits .some) (k .state) (openOf (k .streams)) (k .streams) (c .before .before .before .before .summary-of .result) (sym (laid-own (k .streams) (f .numbers) (f .fewer)))
-    ∙ ap (λ (m : Summary). carried (joined k q) (result (answer (kept (joined k q)) (k .state) (openOf (k .streams)) (behind q (k .waiting - 1)) m))) summary
-    ∙ ap (λ (d : Done). carried (joined k q) (result d)) (reported-by k q f (s .pre .waits .some) o (sym (c .before .before .before .is-in .ensures) ∙ c .before .before .if2 .taken))
-    ∙ first-by k q f (s .pre .waits .some) o fit
+    ∙ answers (k d) (q d) f (s .pre .waits .some) (k d .state) (openOf (k d .streams)) (k d .streams) (c .before .before .before .before .summary-of .result) (sym (laid-own (k d .streams) (f .numbers) (f .fewer)))
+    ∙ ap (λ (m : Summary). carried (joined (k d) (q d)) (result (answer (kept (joined (k d) (q d))) (k d .state) (openOf (k d .streams)) (behind (q d) (k d .waiting - 1)) m))) (summed d)
+    ∙ reports d (sym (c .before .before .before .is-in .ensures) ∙ c .before .before .if2 .taken)
 
 settle-requires : tie.Need-settle-requires
 settle-requires c κs =
@@ -78,17 +103,10 @@ settle-requires c κs =
 
 returns-3 : tie.Need-returns-3
 returns-3 c =
+    let d = c .before .before .before in
     let s = c .before .before .before .before .before .before .before .before in
-    let k = s .args .control in
-    let q = s .args .queue in
-    let o = s .args .outcome in
-    let f : Fits k q = record { places = slots q _ (s .good .1 .0); numbers = streams k _ (s .good .0); few = s .pre .waits .short; fewer = s .pre .waits .few } in
-    let fit = sym (c .before .before .before .before .before .before .fits2 .ensures ∙ ap (fitting o) (c .before .before .before .before .before .before .before .first .ensures)) ∙ not-false _ (c .before .before .before .before .before .if1 .left) in
-    let summary = c .before .before .before .summary-of .ensures ∙ ap (summaryOf o (k .state) (k .streams .next)) (c .before .before .before .before .before .before .before .first .ensures) in
-    ap toldReport (c .settle .ensures ∙ ap (λ (r : Request). settledIn k q r o (c .before .before .before .summary-of .result)) (c .before .before .before .before .before .before .before .first .ensures))
-    ∙ settled-is k q f (s .pre .waits .some) o (c .before .before .before .summary-of .result) summary
-    ∙ ap (λ (d : Done). carried (joined k q) (result d)) (reported-by k q f (s .pre .waits .some) o (sym (c .before .before .is-in .ensures) ∙ c .before .if2 .left))
-    ∙ first-by k q f (s .pre .waits .some) o fit
+    ap toldReport (c .settle .ensures ∙ ap (λ (r : Request). settledIn (k d) (q d) r (o d) (c .before .before .before .summary-of .result)) (c .before .before .before .before .before .before .before .first .ensures))
+    ∙ settled-is (k d) (q d) (fit s) (s .pre .waits .some) (o d) (c .before .before .before .summary-of .result) (summed d) ∙ reports d (sym (c .before .before .is-in .ensures) ∙ c .before .if2 .left)
 
 pub report-first-spec : {M : Type 1} → statement M
 report-first-spec =

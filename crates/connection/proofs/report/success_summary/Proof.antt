@@ -1,6 +1,6 @@
 -- `connection::report::success_summary` meets its contract: by the tests passed. Assumes nothing.
 use borrow.Author.Needs.{needs}
-use mathlib.Core.Path.{refl, sym, ap, _∙_}
+use mathlib.Core.Path.{refl, sym, _∙_}
 use borrow.Author.Tests.{eq-eqb, ne-eqb}
 use native.Mathlib.Omega.{arith}
 use Rattle.connection.proofs.Outcomes.{summary-by}

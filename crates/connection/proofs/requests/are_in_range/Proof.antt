@@ -16,11 +16,13 @@ is-qid-requires c κs = search needs
 returns : tie.Need-returns
 returns c =
     let a = c .before .before .before in
-    let n-is = sym (c .before .before .is-count .ensures ∙ ap (minusOneOr 1) (toZ-ofZ (a .fits .n))) ∙ c .before .if1 .taken in
-    rw n-is (c .is-qid .ensures ∙ ap (minusOneOr 0) (toZ-ofZ (a .fits .qid)))
+    c .is-qid .ensures ∙ ap (minusOneOr 0) (toZ-ofZ (a .fits .qid))
+    ∙ sym (ap (λ (b : Bool). b && minusOneOr 0 (a .args .qid)) (sym (c .before .before .is-count .ensures ∙ ap (minusOneOr 1) (toZ-ofZ (a .fits .n))) ∙ c .before .if1 .taken))
 
 returns-2 : tie.Need-returns-2
-returns-2 c = rw (sym (c .before .is-count .ensures ∙ ap (minusOneOr 1) (toZ-ofZ (c .before .before .fits .n))) ∙ c .if1 .left)
+returns-2 c =
+    let a = c .before .before in
+    sym (ap (λ (b : Bool). b && minusOneOr 0 (a .args .qid)) (sym (c .before .is-count .ensures ∙ ap (minusOneOr 1) (toZ-ofZ (a .fits .n))) ∙ c .if1 .left))
 
 pub are-in-range-spec : {M : Type 1} → statement M
 are-in-range-spec = tie.close (tie.spec is-count-requires is-qid-requires returns returns-2)

@@ -1,7 +1,7 @@
 -- `connection::requests::number_of` meets its contract: in each arm the match told which stream it is. Assumes nothing.
 use borrow.Author.Needs.{needs}
 use mathlib.Core.Path.{_≡_, sym, ap, _∙_}
-use Prim.Native.Nat.{ℕ, _-_}
+use Prim.Native.Nat.{_-_}
 use native.Mathlib.Omega.{arith}
 use Rattle.connection.specs.declared.requests.Asked.{Asked}
 use Rattle.connection.specs.Requests.{named}

@@ -1,7 +1,6 @@
 -- `connection::rules::are_alike` meets its contract: by the first. Assumes nothing.
 use borrow.Author.Needs.{needs}
-use mathlib.Core.Path.{sym, _∙_}
-use Rattle.connection.proofs.Bools.{alike-yes, alike-no}
+use Rattle.connection.proofs.Bools.{alike-yes}
 use Rattle.connection.proofs.rules.are_alike.Statement.{statement}
 use Rattle.connection.proofs.rules.are_alike.Tie as tie
 

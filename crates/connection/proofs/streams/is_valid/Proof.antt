@@ -1,13 +1,11 @@
 -- `connection::streams::is_valid` meets its contract. The loop's invariant: what is left to check decides. Assumes nothing.
 use borrow.Author.Needs.{needs}
 use mathlib.Core.Path.{_≡_, refl, sym, _∙_}
-use Prim.Native.Nat.{_-_, _≤_}
-use native.Mathlib.Omega.{arith}
-use lib.ListN.{take, drop, length}
+use Prim.Native.Nat.{_-_}
+use lib.ListN.{take, drop}
 use Rattle.connection.specs.Rules.{distinctBelow}
-use Rattle.connection.specs.Record.{openOf}
 use Rattle.connection.proofs.Lengths.{numbers}
-use Rattle.connection.proofs.Numbers.{open-length, too-high, again, right, all-right, next-high, next-right}
+use Rattle.connection.proofs.Numbers.{too-high, again, right, all-right, next-high, next-right}
 use Rattle.connection.proofs.streams.is_valid.Statement.{statement}
 use Rattle.connection.proofs.streams.is_valid.Tie as tie
 
@@ -20,8 +18,8 @@ abbrev μ-loop : tie.MeasureT-loop
 returns : tie.Need-returns Inv-loop μ-loop
 returns c =
     let s = c .before .before in
-    let long : length (s .args .streams .numbers) ≡ 8 = numbers (s .args .streams) _ (s .good .0) in
-    sym (next-high (openOf (s .args .streams)) (omega (arith, open-length (s .args .streams .numbers) (s .args .streams .count) long (s .pre), s .pre)) (c .if1 .taken))
+    let v = s .args .streams in
+    sym (next-high v (numbers v _ (s .good .0)) (s .pre) (c .if1 .taken))
 
 loop-holds : tie.Need-loop-holds Inv-loop μ-loop
 loop-holds c = refl
@@ -35,12 +33,9 @@ array-read-if2 c = search needs
 returns-2 : tie.Need-returns-2 Inv-loop μ-loop
 returns-2 c =
     let s = c .before .before .before .before .before in
-    let l = c .before .before .loop in
-    let long : length (s .args .streams .numbers) ≡ 8 = numbers (s .args .streams) _ (s .good .0) in
-    sym
-    (next-right (openOf (s .args .streams)) (omega (arith, open-length (s .args .streams .numbers) (s .args .streams .count) long (s .pre), s .pre)) (c .before .before .before .if1 .left)
-    ∙ l .inv
-    ∙ too-high (s .args .streams .numbers) (s .args .streams .count) long (s .pre) (s .args .streams .next) (l .i) (c .before .loop-test .taken) (c .if2 .taken))
+    let v = s .args .streams in
+    let long = numbers v _ (s .good .0) in
+    sym (next-right v long (s .pre) (c .before .before .before .if1 .left) ∙ c .before .before .loop .inv ∙ too-high (v .numbers) (v .count) long (s .pre) (v .next) (c .before .before .loop .i) (c .before .loop-test .taken) (c .if2 .taken))
 
 add-is-open : tie.Need-add-is-open Inv-loop μ-loop
 add-is-open c = search needs
@@ -57,13 +52,9 @@ is-open-requires c κs = search needs
 returns-3 : tie.Need-returns-3 Inv-loop μ-loop
 returns-3 c =
     let s = c .before .before .before .before .before .before .before in
-    let l = c .before .before .before .before .loop in
-    let long : length (s .args .streams .numbers) ≡ 8 = numbers (s .args .streams) _ (s .good .0) in
-    sym
-    (next-right (openOf (s .args .streams)) (omega (arith, open-length (s .args .streams .numbers) (s .args .streams .count) long (s .pre), s .pre)) (c .before .before .before .before .before .if1 .left)
-    ∙ l .inv
-    ∙ again (s .args .streams .numbers) (s .args .streams .count) long (s .pre) (s .args .streams .next) (l .i) (c .before .before .before .loop-test .taken)
-    (sym (c .before .is-open .ensures) ∙ c .if3 .taken))
+    let v = s .args .streams in
+    let long = numbers v _ (s .good .0) in
+    sym (next-right v long (s .pre) (c .before .before .before .before .before .if1 .left) ∙ c .before .before .before .before .loop .inv ∙ again (v .numbers) (v .count) long (s .pre) (v .next) (c .before .before .before .before .loop .i) (c .before .before .before .loop-test .taken) (sym (c .before .is-open .ensures) ∙ c .if3 .taken))
 
 add-i : tie.Need-add-i Inv-loop μ-loop
 add-i c = search needs
@@ -74,21 +65,15 @@ loop-less c = search needs
 loop-again : tie.Need-loop-again Inv-loop μ-loop
 loop-again c =
     let s = c .before .before .before .before .before .before .before in
-    let l = c .before .before .before .before .loop in
-    let long : length (s .args .streams .numbers) ≡ 8 = numbers (s .args .streams) _ (s .good .0) in
-    l .inv
-    ∙ right (s .args .streams .numbers) (s .args .streams .count) long (s .pre) (s .args .streams .next) (l .i) (c .before .before .before .loop-test .taken)
-    (c .before .before .if2 .left) (sym (c .before .is-open .ensures) ∙ c .if3 .left)
+    let v = s .args .streams in
+    c .before .before .before .before .loop .inv ∙ right (v .numbers) (v .count) (numbers v _ (s .good .0)) (s .pre) (v .next) (c .before .before .before .before .loop .i) (c .before .before .before .loop-test .taken) (c .before .before .if2 .left) (sym (c .before .is-open .ensures) ∙ c .if3 .left)
 
 returns-4 : tie.Need-returns-4 Inv-loop μ-loop
 returns-4 c =
     let s = c .before .before .before .before in
-    let l = c .before .loop in
-    let long : length (s .args .streams .numbers) ≡ 8 = numbers (s .args .streams) _ (s .good .0) in
-    sym
-    (next-right (openOf (s .args .streams)) (omega (arith, open-length (s .args .streams .numbers) (s .args .streams .count) long (s .pre), s .pre)) (c .before .before .if1 .left)
-    ∙ l .inv
-    ∙ all-right (s .args .streams .numbers) (s .args .streams .count) long (s .pre) (s .args .streams .next) (l .i) (c .loop-test .left))
+    let v = s .args .streams in
+    let long = numbers v _ (s .good .0) in
+    sym (next-right v long (s .pre) (c .before .before .if1 .left) ∙ c .before .loop .inv ∙ all-right (v .numbers) (v .count) long (s .pre) (v .next) (c .before .loop .i) (c .loop-test .left))
 
 pub is-valid-spec : {M : Type 1} → statement M
 is-valid-spec =

@@ -2,36 +2,70 @@
 use borrow.Author.Needs.{needs}
 use mathlib.Core.Path.{_≡_, refl, sym, ap, _∙_}
 use mathlib.Core.Bool.{Bool, true, false, cond}
-use mathlib.Core.List.{List, [], _∷_}
+use Prim.Native.Nat.{_+_, _-_}
+use lib.ListN.{drop}
 use Rattle.refusal.specs.Answer.{result}
+use Rattle.connection.specs.declared.record.State.{State}
 use Rattle.connection.specs.declared.record.State.the-variants.{Ready, Failed, Interrupted}
-use Rattle.connection.specs.declared.record.Request.{Request}
+use Rattle.connection.specs.declared.record.Queue.{Queue}
 use Rattle.connection.specs.declared.record.Control.{Control}
 use Rattle.connection.specs.declared.record.Connection.{Connection}
 use Rattle.connection.specs.declared.answers.Failure.the-variants.{StreamsFull, StreamUnknown}
+use Rattle.connection.specs.declared.answers.Summary.{Summary}
 use Rattle.connection.specs.declared.answers.Summary.the-variants as S
-use Rattle.connection.specs.declared.answers.Taken.{Taken}
 use Rattle.connection.specs.declared.answers.Taken.the-variants as A
+use Rattle.connection.specs.declared.turn.Turn.{Turn}
 use Rattle.connection.specs.declared.turn.Turn.the-variants as U
-use Prim.Native.Nat.{ℕ, _+_, _-_}
 use Rattle.connection.specs.Requests.{RESET, is, any}
-use Rattle.connection.specs.Table.{Open, noneOpen, answer, handed, turnOf}
-use Rattle.connection.specs.Record.{joined, behind, firstIn, openOf, kept, carried, toldTake}
+use Rattle.connection.specs.Table.{Done, noneOpen, answer, handed, taken, takeFirst, turnOf}
+use Rattle.connection.specs.Record.{After, joined, front, behind, firstIn, openOf, kept, carried, toldTake}
+use Rattle.connection.specs.Parts.{clearedIn}
 use Rattle.connection.proofs.Keeping.{Fits, put-handed, answers, first-taken}
 use Rattle.connection.proofs.Lengths.{slots, streams}
-use Rattle.connection.proofs.Waiting.{front-rest}
 use Rattle.connection.proofs.Numbers.{laid-own}
+use Rattle.connection.proofs.Waiting.{front-rest}
 use Rattle.connection.proofs.take.take_first.Statement.{statement}
 use Rattle.connection.proofs.take.take_first.Tie as tie
+
+fit : (s : tie.Start) → Fits (s .args .control) (s .args .queue)
+fit s = record { places = slots (s .args .queue) _ (s .good .1 .0); numbers = streams (s .args .control) _ (s .good .0); few = s .pre .short; fewer = s .pre .few }
+
+-- what stands before the match
+abbrev k : tie.After-turn-of → Control
+k d = d .before .before .before .args .control
+
+abbrev q : tie.After-turn-of → Queue
+q d = d .before .before .before .args .queue
+
+abbrev gives : tie.After-turn-of → Done → After
+gives d x = carried (joined (k d) (q d)) (result x)
+
+-- the first's turn
+turns : (d : tie.After-turn-of) (u : Turn) → d .turn-of .result ≡ u
+    → gives d (taken u (kept (joined (k d) (q d))) (firstIn (q d)) (behind (q d) (k d .waiting - 1))) ≡ gives d (takeFirst (kept (joined (k d) (q d))) (front (q d) (k d .waiting)))
+turns d u e =
+    let s = d .before .before .before in
+    first-taken (k d) (q d) (fit s) (s .pre .some) u (sym (d .turn-of .ensures ∙ ap (turnOf (k d .state) (openOf (k d .streams))) (d .before .first .ensures)) ∙ e)
+
+-- its summary, with no stream open
+clears : (d : tie.After-turn-of) (s : State) (m : Summary)
+    → toldTake (clearedIn (k d) (q d) s m) ≡ gives d (answer (kept (joined (k d) (q d))) s (noneOpen (openOf (k d .streams))) (behind (q d) (k d .waiting - 1)) m)
+clears d s m = let f = d .before .before .before in answers (k d) (q d) (fit f) (f .pre .some) s (noneOpen (openOf (k d .streams))) _ m refl
+
+-- a RESET's, by whether another waits
+resets : (d : tie.After-turn-of) (b : Bool) → any (is RESET) (drop 1 (front (q d) (k d .waiting))) ≡ b
+    → gives d (answer (kept (joined (k d) (q d))) (cond b Interrupted Ready) (noneOpen (openOf (k d .streams))) (behind (q d) (k d .waiting - 1)) S.Success)
+    ≡ gives d (taken U.Resets (kept (joined (k d) (q d))) (firstIn (q d)) (behind (q d) (k d .waiting - 1)))
+resets d b e =
+    let s = d .before .before .before in
+    ap (λ (b : Bool). gives d (answer (kept (joined (k d) (q d))) (cond b Interrupted Ready) (noneOpen (openOf (k d .streams))) (behind (q d) (k d .waiting - 1)) S.Success))
+    (sym (ap (any (is RESET)) (sym (front-rest (q d) (k d .waiting) (fit s .places) (s .pre .some) (s .pre .short))) ∙ e))
 
 first-requires : tie.Need-first-requires
 first-requires c κs = search needs
 
 turn-of-requires : tie.Need-turn-of-requires
 turn-of-requires c κs = search needs
-
-none-open-requires : tie.Need-none-open-requires
-none-open-requires c κs = search needs
 
 enum-told : tie.Need-enum-told
 enum-told c = search needs
@@ -48,35 +82,28 @@ enum-told-2 c = search needs
 has-reset-requires : tie.Need-has-reset-requires
 has-reset-requires c κs = search needs
 
-sum-up-requires : tie.Need-sum-up-requires
-sum-up-requires c κs = search needs
+clear-requires : tie.Need-clear-requires
+clear-requires c κs = search needs
 
 returns : tie.Need-returns
 returns c =
-    let s = c .before .before .before .before .before .before .before .before .before in
-    let k = s .args .control in
-    let q = s .args .queue in
-    let f : Fits k q = record { places = slots q _ (s .good .1 .0); numbers = streams k _ (s .good .0); few = s .pre .short; fewer = s .pre .few } in
-    let told = sym (c .before .before .before .before .before .before .turn-of .ensures ∙ ap (turnOf (k .state) (openOf (k .streams))) (c .before .before .before .before .before .before .before .first .ensures)) ∙ c .before .before .before .enum-told2 .given .1 in
-    let resets = sym (ap (any (is RESET)) (front-rest q (k .waiting) (f .places) (s .pre .some) (f .few))) ∙ sym (c .before .before .has-reset .ensures) ∙ c .before .if1 .taken in
-    ap toldTake (c .sum-up .ensures) ∙ answers k q f (s .pre .some) Interrupted (noneOpen (openOf (k .streams))) (c .before .before .before .before .before .none-open .result) S.Success (c .before .before .before .before .before .none-open .ensures)
-    ∙ ap (λ (b : Bool). carried (joined k q) (result (answer (kept (joined k q)) (cond b Interrupted Ready) (noneOpen (openOf (k .streams))) (behind q (k .waiting - 1)) S.Success))) (sym resets)
-    ∙ first-taken k q f (s .pre .some) U.Resets told
+    let d = c .before .before .before .before .before in
+    ap toldTake (c .clear .ensures) ∙ clears d Interrupted S.Success ∙ resets d true (sym (c .before .before .has-reset .ensures) ∙ c .before .if1 .taken) ∙ turns d U.Resets (c .before .before .before .enum-told2 .given .1)
 
-sum-up-requires-2 : tie.Need-sum-up-requires-2
-sum-up-requires-2 c κs = search needs
+clear-requires-2 : tie.Need-clear-requires-2
+clear-requires-2 c κs = search needs
 
 enum-told-3 : tie.Need-enum-told-3
 enum-told-3 c = search needs
 
-sum-up-requires-3 : tie.Need-sum-up-requires-3
-sum-up-requires-3 c κs = search needs
+sum-up-requires : tie.Need-sum-up-requires
+sum-up-requires c κs = search needs
 
 enum-told-4 : tie.Need-enum-told-4
 enum-told-4 c = search needs
 
-add-t18 : tie.Need-add-t18
-add-t18 c = search needs
+add-t17 : tie.Need-add-t17
+add-t17 c = search needs
 
 handed-requires : tie.Need-handed-requires
 handed-requires c κs = search needs
@@ -87,72 +114,43 @@ answer-requires-2 c κs = search needs
 enum-told-5 : tie.Need-enum-told-5
 enum-told-5 c = search needs
 
-sum-up-requires-4 : tie.Need-sum-up-requires-4
-sum-up-requires-4 c κs = search needs
+fail-requires : tie.Need-fail-requires
+fail-requires c κs = search needs
 
 enum-told-6 : tie.Need-enum-told-6
 enum-told-6 c = search needs
 
-sum-up-requires-5 : tie.Need-sum-up-requires-5
-sum-up-requires-5 c κs = search needs
+fail-requires-2 : tie.Need-fail-requires-2
+fail-requires-2 c κs = search needs
 
 returns-2 : tie.Need-returns-2
 returns-2 c =
-    let s = c .before .before .before .before .before .before .before .before in
-    let k = s .args .control in
-    let q = s .args .queue in
-    let f : Fits k q = record { places = slots q _ (s .good .1 .0); numbers = streams k _ (s .good .0); few = s .pre .short; fewer = s .pre .few } in
-    let told = sym (c .before .before .before .before .before .turn-of .ensures ∙ ap (turnOf (k .state) (openOf (k .streams))) (c .before .before .before .before .before .before .first .ensures)) ∙ c .before .before .enum-told .given .1 in
-    ap toldTake (c .answer .ensures ∙ ap (λ (d : Control). record { connection = joined d q; answer = A.Closed }) (c .before .defunct .ensures)) ∙ first-taken k q f (s .pre .some) U.Closes told
+    let d = c .before .before .before .before in
+    ap toldTake (c .answer .ensures ∙ ap (λ (x : Control). record { connection = joined x (q d); answer = A.Closed }) (c .before .defunct .ensures)) ∙ turns d U.Closes (c .before .before .enum-told .given .1)
 
 returns-3 : tie.Need-returns-3
 returns-3 c =
-    let s = c .before .before .before .before .before .before .before .before .before in
-    let k = s .args .control in
-    let q = s .args .queue in
-    let f : Fits k q = record { places = slots q _ (s .good .1 .0); numbers = streams k _ (s .good .0); few = s .pre .short; fewer = s .pre .few } in
-    let told = sym (c .before .before .before .before .before .before .turn-of .ensures ∙ ap (turnOf (k .state) (openOf (k .streams))) (c .before .before .before .before .before .before .before .first .ensures)) ∙ c .before .before .before .enum-told2 .given .1 in
-    let resets = sym (ap (any (is RESET)) (front-rest q (k .waiting) (f .places) (s .pre .some) (f .few))) ∙ sym (c .before .before .has-reset .ensures) ∙ c .before .if1 .left in
-    ap toldTake (c .sum-up2 .ensures) ∙ answers k q f (s .pre .some) Ready (noneOpen (openOf (k .streams))) (c .before .before .before .before .before .none-open .result) S.Success (c .before .before .before .before .before .none-open .ensures)
-    ∙ ap (λ (b : Bool). carried (joined k q) (result (answer (kept (joined k q)) (cond b Interrupted Ready) (noneOpen (openOf (k .streams))) (behind q (k .waiting - 1)) S.Success))) (sym resets)
-    ∙ first-taken k q f (s .pre .some) U.Resets told
+    let d = c .before .before .before .before .before in
+    ap toldTake (c .clear2 .ensures) ∙ clears d Ready S.Success ∙ resets d false (sym (c .before .before .has-reset .ensures) ∙ c .before .if1 .left) ∙ turns d U.Resets (c .before .before .before .enum-told2 .given .1)
 
 returns-4 : tie.Need-returns-4
 returns-4 c =
-    let s = c .before .before .before .before .before .before .before in
-    let k = s .args .control in
-    let q = s .args .queue in
-    let f : Fits k q = record { places = slots q _ (s .good .1 .0); numbers = streams k _ (s .good .0); few = s .pre .short; fewer = s .pre .few } in
-    let told = sym (c .before .before .before .before .turn-of .ensures ∙ ap (turnOf (k .state) (openOf (k .streams))) (c .before .before .before .before .before .first .ensures)) ∙ c .before .enum-told3 .given .1 in
-    ap toldTake (c .sum-up3 .ensures) ∙ answers k q f (s .pre .some) (k .state) (openOf (k .streams)) (k .streams) S.Ignored (sym (laid-own (k .streams) (f .numbers) (f .fewer))) ∙ first-taken k q f (s .pre .some) U.Ignored told
+    let d = c .before .before .before in
+    let f = fit (c .before .before .before .before .before .before) in
+    ap toldTake (c .sum-up .ensures) ∙ answers (k d) (q d) f (c .before .before .before .before .before .before .pre .some) (k d .state) (openOf (k d .streams)) (k d .streams) S.Ignored (sym (laid-own (k d .streams) (f .numbers) (f .fewer)))
+    ∙ turns d U.Ignored (c .before .enum-told3 .given .1)
 
 returns-5 : tie.Need-returns-5
 returns-5 c =
-    let s = c .before .before .before .before .before .before .before .before .before in
-    let k = s .args .control in
-    let q = s .args .queue in
-    let f : Fits k q = record { places = slots q _ (s .good .1 .0); numbers = streams k _ (s .good .0); few = s .pre .short; fewer = s .pre .few } in
-    let told = sym (c .before .before .before .before .before .before .turn-of .ensures ∙ ap (turnOf (k .state) (openOf (k .streams))) (c .before .before .before .before .before .before .before .first .ensures)) ∙ c .before .before .before .enum-told4 .given .1 in
-    ap toldTake (c .answer2 .ensures ∙ (λ i. record { connection = joined (c .before .handed .ensures i) q; answer = A.Handed (c .before .before .before .before .before .before .before .first .ensures i) (k .sent + 1) }))
-    ∙ ap (λ (d : Connection). record { connection = d; answer = result (handed (firstIn q) (k .sent + 1)) }) (put-handed k q f) ∙ first-taken k q f (s .pre .some) U.Handed told
+    let d = c .before .before .before .before .before in
+    ap toldTake (c .answer2 .ensures ∙ (λ i. record { connection = joined (c .before .handed .ensures i) (q d); answer = A.Handed (c .before .before .before .before .before .before .first .ensures i) (k d .sent + 1) }))
+    ∙ ap (λ (x : Connection). record { connection = x; answer = result (handed (firstIn (q d)) (k d .sent + 1)) }) (put-handed (k d) (q d) (fit (c .before .before .before .before .before .before .before .before))) ∙ turns d U.Handed (c .before .before .before .enum-told4 .given .1)
 
 returns-6 : tie.Need-returns-6
-returns-6 c =
-    let s = c .before .before .before .before .before .before .before in
-    let k = s .args .control in
-    let q = s .args .queue in
-    let f : Fits k q = record { places = slots q _ (s .good .1 .0); numbers = streams k _ (s .good .0); few = s .pre .short; fewer = s .pre .few } in
-    let told = sym (c .before .before .before .before .turn-of .ensures ∙ ap (turnOf (k .state) (openOf (k .streams))) (c .before .before .before .before .before .first .ensures)) ∙ c .before .enum-told5 .given .1 in
-    ap toldTake (c .sum-up4 .ensures) ∙ answers k q f (s .pre .some) Failed (noneOpen (openOf (k .streams))) (c .before .before .before .none-open .result) (S.Failure StreamsFull) (c .before .before .before .none-open .ensures) ∙ first-taken k q f (s .pre .some) U.Full told
+returns-6 c = let d = c .before .before .before in ap toldTake (c .fail .ensures) ∙ clears d Failed (S.Failure StreamsFull) ∙ turns d U.Full (c .before .enum-told5 .given .1)
 
 returns-7 : tie.Need-returns-7
-returns-7 c =
-    let s = c .before .before .before .before .before .before .before in
-    let k = s .args .control in
-    let q = s .args .queue in
-    let f : Fits k q = record { places = slots q _ (s .good .1 .0); numbers = streams k _ (s .good .0); few = s .pre .short; fewer = s .pre .few } in
-    let told = sym (c .before .before .before .before .turn-of .ensures ∙ ap (turnOf (k .state) (openOf (k .streams))) (c .before .before .before .before .before .first .ensures)) ∙ c .before .enum-told6 .given .1 in
-    ap toldTake (c .sum-up5 .ensures) ∙ answers k q f (s .pre .some) Failed (noneOpen (openOf (k .streams))) (c .before .before .before .none-open .result) (S.Failure StreamUnknown) (c .before .before .before .none-open .ensures) ∙ first-taken k q f (s .pre .some) U.Unknown told
+returns-7 c = let d = c .before .before .before in ap toldTake (c .fail2 .ensures) ∙ clears d Failed (S.Failure StreamUnknown) ∙ turns d U.Unknown (c .before .enum-told6 .given .1)
 
 pub take-first-spec : {M : Type 1} → statement M
 take-first-spec =
@@ -160,25 +158,24 @@ take-first-spec =
     (tie.spec
     first-requires
     turn-of-requires
-    none-open-requires
     enum-told
     defunct-requires
     answer-requires
     enum-told-2
     has-reset-requires
-    sum-up-requires
+    clear-requires
     returns
-    sum-up-requires-2
+    clear-requires-2
     enum-told-3
-    sum-up-requires-3
+    sum-up-requires
     enum-told-4
-    add-t18
+    add-t17
     handed-requires
     answer-requires-2
     enum-told-5
-    sum-up-requires-4
+    fail-requires
     enum-told-6
-    sum-up-requires-5
+    fail-requires-2
     returns-2
     returns-3
     returns-4

@@ -1,7 +1,6 @@
 -- `connection::turn::is_full` meets its contract: by the tests passed. Assumes nothing.
 use borrow.Author.Needs.{needs}
 use mathlib.Core.Path.{refl, sym, ap, _∙_}
-use Prim.Native.Nat.{ℕ}
 use lib.Dec.{leb}
 use borrow.Author.Tests.{not-true, not-false, le-leb, lt-leb}
 use Rattle.connection.specs.Record.{openOf}

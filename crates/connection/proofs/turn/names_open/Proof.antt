@@ -1,7 +1,6 @@
 -- `connection::turn::names_open` meets its contract: by the state. Assumes nothing.
 use borrow.Author.Needs.{needs}
-use mathlib.Core.Path.{refl, sym, ap, _∙_}
-use mathlib.Core.Bool.{Bool}
+use mathlib.Core.Path.{sym, ap, _∙_}
 use Prim.Native.Nat.{ℕ}
 use lib.ListN.{take}
 use Rattle.connection.specs.declared.requests.Asked.{Asked}

@@ -1,12 +1,36 @@
 -- `connection::turn::turn_of` meets its contract: by the tests passed. Assumes nothing.
 use borrow.Author.Needs.{needs}
-use mathlib.Core.Path.{refl, sym, _∙_}
+use mathlib.Core.Path.{_≡_, refl, sym, _∙_}
+use mathlib.Core.Bool.{Bool, cond, not, _&&_}
 use borrow.Author.Tests.{eq-eqb, ne-eqb, not-true, not-false}
+use Rattle.connection.specs.declared.record.State.{State}
+use Rattle.connection.specs.declared.record.Request.{Request}
+use Rattle.connection.specs.declared.turn.Turn.the-variants.{Full, Unknown, Handed}
+use Rattle.connection.specs.Requests.{RUN, is, fetches}
+use Rattle.connection.specs.Table.{Open, isFull, namesOpen, turnOf}
 use Rattle.connection.specs.Record.{openOf}
 use Rattle.connection.proofs.Rows.{run-fetches}
 use Rattle.connection.proofs.Turns.{turn-by}
 use Rattle.connection.proofs.turn.turn_of.Statement.{statement}
 use Rattle.connection.proofs.turn.turn_of.Tie as tie
+
+-- the request is no RESET, not ignored, and handed over in this state
+abbrev s : tie.Else3 → State
+s d = d .before .before .before .before .before .before .args .state
+
+abbrev o : tie.Else3 → Open
+o d = openOf (d .before .before .before .before .before .before .args .streams)
+
+abbrev r : tie.Else3 → Request
+r d = d .before .before .before .before .before .before .args .request
+
+over : (d : tie.Else3) {run full fetching names : Bool} → is RUN (r d) ≡ run → isFull (s d) (o d) ≡ full → fetches (r d) ≡ fetching → namesOpen (s d) (o d) (r d) ≡ names
+    → cond (run && full) Full (cond (fetching && not names) Unknown Handed) ≡ turnOf (s d) (o d) (r d)
+over d p q u v =
+    let e = d .before .before .before .before in
+    sym
+    (turn-by (s d) (o d) (r d) (ne-eqb _ _ (λ x. e .if1 .left (e .before .tag .ensures ∙ x))) (sym (d .before .before .before .is-ignored .ensures) ∙ d .before .before .if2 .left)
+    (sym (d .before .hands-over .ensures) ∙ not-false _ (d .if3 .left)) p q u v)
 
 tag-requires : tie.Need-tag-requires
 tag-requires c κs = search needs
@@ -23,43 +47,28 @@ returns-2 : tie.Need-returns-2
 returns-2 c =
     let a = c .before .before .before .before .args in
     sym
-    (turn-by (a .state) (openOf (a .streams)) (a .request) (ne-eqb _ _ (λ q. c .before .before .if1 .left (c .before .before .before .tag .ensures ∙ q)))
-    (sym (c .before .is-ignored .ensures) ∙ c .if2 .taken) refl refl refl refl refl)
+    (turn-by (a .state) (openOf (a .streams)) (a .request) (ne-eqb _ _ (λ x. c .before .before .if1 .left (c .before .before .before .tag .ensures ∙ x))) (sym (c .before .is-ignored .ensures) ∙ c .if2 .taken) refl refl refl refl refl)
 
 hands-over-requires : tie.Need-hands-over-requires
 hands-over-requires c κs = search needs
 
 returns-3 : tie.Need-returns-3
 returns-3 c =
-    let e = c .before .before .before .before in
-    let a = e .before .before .args in
+    let a = c .before .before .before .before .before .before .args in
     sym
-    (turn-by (a .state) (openOf (a .streams)) (a .request) (ne-eqb _ _ (λ q. e .if1 .left (e .before .tag .ensures ∙ q)))
-    (sym (c .before .before .before .is-ignored .ensures) ∙ c .before .before .if2 .left) (sym (c .before .hands-over .ensures) ∙ not-true _ (c .if3 .taken)) refl refl refl refl)
+    (turn-by (a .state) (openOf (a .streams)) (a .request) (ne-eqb _ _ (λ x. c .before .before .before .before .if1 .left (c .before .before .before .before .before .tag .ensures ∙ x))) (sym (c .before .before .before .is-ignored .ensures) ∙ c .before .before .if2 .left)
+    (sym (c .before .hands-over .ensures) ∙ not-true _ (c .if3 .taken)) refl refl refl refl)
 
 is-full-requires : tie.Need-is-full-requires
 is-full-requires c κs = search needs
 
 returns-4 : tie.Need-returns-4
-returns-4 c =
-    let h = c .before .before .before in
-    let e = h .before .before .before .before in
-    let a = e .before .before .args in
-    sym
-    (turn-by (a .state) (openOf (a .streams)) (a .request) (ne-eqb _ _ (λ q. e .if1 .left (e .before .tag .ensures ∙ q)))
-    (sym (h .before .before .before .is-ignored .ensures) ∙ h .before .before .if2 .left) (sym (h .before .hands-over .ensures) ∙ not-false _ (h .if3 .left))
-    (eq-eqb _ _ (sym (e .before .tag .ensures) ∙ c .before .before .if4 .taken)) (sym (c .before .is-full .ensures) ∙ c .if5 .taken) refl refl)
+returns-4 c = over (c .before .before .before) (eq-eqb _ _ (sym (c .before .before .before .before .before .before .before .before .tag .ensures) ∙ c .before .before .if4 .taken)) (sym (c .before .is-full .ensures) ∙ c .if5 .taken) refl refl
 
 returns-5 : tie.Need-returns-5
 returns-5 c =
-    let h = c .before .before .before in
-    let e = h .before .before .before .before in
-    let a = e .before .before .args in
-    let run = eq-eqb _ _ (sym (e .before .tag .ensures) ∙ c .before .before .if4 .taken) in
-    sym
-    (turn-by (a .state) (openOf (a .streams)) (a .request) (ne-eqb _ _ (λ q. e .if1 .left (e .before .tag .ensures ∙ q)))
-    (sym (h .before .before .before .is-ignored .ensures) ∙ h .before .before .if2 .left) (sym (h .before .hands-over .ensures) ∙ not-false _ (h .if3 .left))
-    run (sym (c .before .is-full .ensures) ∙ c .if5 .left) (run-fetches (a .request) run) refl)
+    let run = eq-eqb _ _ (sym (c .before .before .before .before .before .before .before .before .tag .ensures) ∙ c .before .before .if4 .taken) in
+    over (c .before .before .before) run (sym (c .before .is-full .ensures) ∙ c .if5 .left) (run-fetches (c .before .before .before .before .before .before .before .before .before .args .request) run) refl
 
 fetches-requires : tie.Need-fetches-requires
 fetches-requires c κs = search needs
@@ -68,36 +77,13 @@ names-open-requires : tie.Need-names-open-requires
 names-open-requires c κs = search needs
 
 returns-6 : tie.Need-returns-6
-returns-6 c =
-    let h = c .before .before .before .before .before in
-    let e = h .before .before .before .before in
-    let a = e .before .before .args in
-    sym
-    (turn-by (a .state) (openOf (a .streams)) (a .request) (ne-eqb _ _ (λ q. e .if1 .left (e .before .tag .ensures ∙ q)))
-    (sym (h .before .before .before .is-ignored .ensures) ∙ h .before .before .if2 .left) (sym (h .before .hands-over .ensures) ∙ not-false _ (h .if3 .left))
-    (ne-eqb _ _ (λ q. c .before .before .before .before .if4 .left (e .before .tag .ensures ∙ q))) refl (sym (c .before .before .before .fetches .ensures) ∙ c .before .before .if6 .taken)
-    (sym (c .before .names-open .ensures) ∙ c .if7 .taken))
+returns-6 c = over (c .before .before .before .before .before) (ne-eqb _ _ (λ x. c .before .before .before .before .if4 .left (c .before .before .before .before .before .before .before .before .before .before .tag .ensures ∙ x))) refl (sym (c .before .before .before .fetches .ensures) ∙ c .before .before .if6 .taken) (sym (c .before .names-open .ensures) ∙ c .if7 .taken)
 
 returns-7 : tie.Need-returns-7
-returns-7 c =
-    let h = c .before .before .before .before .before in
-    let e = h .before .before .before .before in
-    let a = e .before .before .args in
-    sym
-    (turn-by (a .state) (openOf (a .streams)) (a .request) (ne-eqb _ _ (λ q. e .if1 .left (e .before .tag .ensures ∙ q)))
-    (sym (h .before .before .before .is-ignored .ensures) ∙ h .before .before .if2 .left) (sym (h .before .hands-over .ensures) ∙ not-false _ (h .if3 .left))
-    (ne-eqb _ _ (λ q. c .before .before .before .before .if4 .left (e .before .tag .ensures ∙ q))) refl (sym (c .before .before .before .fetches .ensures) ∙ c .before .before .if6 .taken)
-    (sym (c .before .names-open .ensures) ∙ c .if7 .left))
+returns-7 c = over (c .before .before .before .before .before) (ne-eqb _ _ (λ x. c .before .before .before .before .if4 .left (c .before .before .before .before .before .before .before .before .before .before .tag .ensures ∙ x))) refl (sym (c .before .before .before .fetches .ensures) ∙ c .before .before .if6 .taken) (sym (c .before .names-open .ensures) ∙ c .if7 .left)
 
 returns-8 : tie.Need-returns-8
-returns-8 c =
-    let h = c .before .before .before in
-    let e = h .before .before .before .before in
-    let a = e .before .before .args in
-    sym
-    (turn-by (a .state) (openOf (a .streams)) (a .request) (ne-eqb _ _ (λ q. e .if1 .left (e .before .tag .ensures ∙ q)))
-    (sym (h .before .before .before .is-ignored .ensures) ∙ h .before .before .if2 .left) (sym (h .before .hands-over .ensures) ∙ not-false _ (h .if3 .left))
-    (ne-eqb _ _ (λ q. c .before .before .if4 .left (e .before .tag .ensures ∙ q))) refl (sym (c .before .fetches .ensures) ∙ c .if6 .left) refl)
+returns-8 c = over (c .before .before .before) (ne-eqb _ _ (λ x. c .before .before .if4 .left (c .before .before .before .before .before .before .before .before .tag .ensures ∙ x))) refl (sym (c .before .fetches .ensures) ∙ c .if6 .left) refl
 
 pub turn-of-spec : {M : Type 1} → statement M
 turn-of-spec =

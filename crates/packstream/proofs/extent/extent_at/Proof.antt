@@ -1,5 +1,5 @@
 -- `packstream::extent::extent_at` meets its contract. Assumes nothing.
-use mathlib.Core.Path.{_≡_, sym, ap, _∙_}
+use mathlib.Core.Path.{_≡_, sym, _∙_}
 use Prim.Native.Nat.{_≤_}
 use lib.ListN.{getD}
 use borrow.Author.Needs.{needs}

@@ -1,5 +1,5 @@
 -- `packstream::marker::wide` meets its contract. Assumes nothing.
-use mathlib.Core.Path.{_≡_, refl, _∙_}
+use mathlib.Core.Path.{refl, _∙_}
 use native.Mathlib.Omega.{arith}
 use lib.Bits.{mask-lt}
 use borrow.Author.Needs.{needs}

@@ -1,8 +1,8 @@
 -- `packstream::read::read_message` meets its contract. Assumes nothing.
-use mathlib.Core.Path.{_≡_, sym, ap, _∙_}
+use mathlib.Core.Path.{sym, ap, _∙_}
 use borrow.Author.Needs.{needs}
 use Rattle.packstream.specs.Decode.{valueIn, mostOpen}
-use Rattle.packstream.specs.Reading.{told, tellMessage, tellValue}
+use Rattle.packstream.specs.Reading.{told, tellMessage}
 use Rattle.packstream.proofs.Answers.{message-whole, message-trailing, message-refused, message-is}
 use Rattle.packstream.proofs.read.read_message.Statement.{statement}
 use Rattle.packstream.proofs.read.read_message.Tie as tie

@@ -1,5 +1,5 @@
 -- `packstream::read::read_value` meets its contract. Assumes nothing.
-use mathlib.Core.Path.{sym, ap, _∙_}
+use mathlib.Core.Path.{ap, _∙_}
 use borrow.Author.Needs.{needs}
 use Rattle.packstream.specs.Reading.{told, tellValue}
 use Rattle.packstream.specs.Decode.{valueAt}

@@ -1,6 +1,5 @@
 -- `packstream::walk::peek` meets its contract. Assumes nothing.
 use mathlib.Core.Path.{_≡_, sym, ap, _∙_, subst}
-use native.Mathlib.Omega.{arith}
 use borrow.Author.Needs.{needs}
 use Rattle.packstream.specs.Decode.{extentAt, mostOpen}
 use Rattle.packstream.specs.declared.extent.Extent.the-variants as E

@@ -1,0 +1,29 @@
+-- `packstream::pack::header_length` meets its contract. Assumes nothing.
+use native.Mathlib.Omega.{arith}
+use borrow.Author.Needs.{needs}
+use borrow.Author.Tests.{lt-ltb, le-ltb}
+use Rattle.numbers.specs.BigEndian.{holds}
+use Rattle.packstream.proofs.Packing.{narrowest-most}
+use Rattle.packstream.proofs.pack.header_length.Statement.{statement}
+use Rattle.packstream.proofs.pack.header_length.Tie as tie
+
+returns : tie.Need-returns
+returns c = rw (lt-ltb (c .before .args .size) 16 (c .if1 .taken))
+
+size-width-requires : tie.Need-size-width-requires
+size-width-requires c κs = search needs
+
+add-result : tie.Need-add-result
+add-result c = let n = c .before .before .args .size in omega (arith, narrowest-most (λ w. holds w n))
+
+returns-2 : tie.Need-returns-2
+returns-2 c = rw (le-ltb (c .before .before .args .size) 16 (c .before .if1 .left), c .size-width .ensures)
+
+pub header-length-spec : {M : Type 1} → statement M
+header-length-spec =
+    tie.close
+    (tie.spec
+    returns
+    size-width-requires
+    add-result
+    returns-2)
