@@ -53,6 +53,7 @@ packFloat bits = 0xC1 ∷ bytesOf 8 bits
 abbrev pub isTiny : ℤ → Bool
 isTiny z = leZ (negsuc 15) z && leZ z (pos 127)
 
+-- the bytes that an Integer takes behind a marker
 abbrev pub integerWidth : ℤ → ℕ
 integerWidth z = narrowest (λ w. fitsIn w z)
 
@@ -60,6 +61,7 @@ integerWidth z = narrowest (λ w. fitsIn w z)
 unfoldable pub packInteger : ℤ → List ℕ
 packInteger z = cond (isTiny z) (bytesOf 1 (bitsOf 1 z)) (wide 0xC8 (integerWidth z) (bitsOf (integerWidth z) z))
 
+-- the bytes that a size takes behind a marker
 abbrev pub sizeWidth : ℕ → ℕ
 sizeWidth n = narrowest (λ w. holds w n)
 
@@ -79,6 +81,7 @@ packBytes v = wide 0xCC (sizeWidth (length v)) (length v) ++ v
 abbrev pub stringHeader : ℕ → List ℕ
 stringHeader n = sizeHeader 0x80 0xD0 n
 
+-- a String: its header, and its bytes
 abbrev pub packString : List ℕ → List ℕ
 packString v = stringHeader (length v) ++ v
 
@@ -149,10 +152,10 @@ told (P.To end) = result end
 told (P.Refused why) = refused (numberOf why) 0
 
 -- ★ 128 is `C9 00 80`, -17 is `C8 EF`
-record Starred : Type 0 where
-  above : packInteger (pos 128) ≡ 0xC9 ∷ 0x00 ∷ 0x80 ∷ []
-  below : packInteger (negsuc 16) ≡ 0xC8 ∷ 0xEF ∷ []
+pub record Starred : Type 0 where
+  pub above : packInteger (pos 128) ≡ 0xC9 ∷ 0x00 ∷ 0x80 ∷ []
+  pub below : packInteger (negsuc 16) ≡ 0xC8 ∷ 0xEF ∷ []
 
-starred : Starred
+pub starred : Starred
 unfolding packInteger narrowest doublings fitsIn bitsOf bytesOf
 starred = record { above = refl; below = refl }

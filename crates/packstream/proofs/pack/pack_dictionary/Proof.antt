@@ -1,6 +1,6 @@
 -- `packstream::pack::pack_dictionary` meets its contract. Assumes nothing.
-use mathlib.Core.Path.{_≡_, sym, _∙_}
-use Prim.Native.Nat.{_+_, _≤_}
+use mathlib.Core.Path.{_≡_, sym, _∙_, subst}
+use Prim.Native.Nat.{ℕ, _+_, _≤_}
 use native.Mathlib.Omega.{arith}
 use borrow.Author.Needs.{needs}
 use lib.Dec.{lit≤}
@@ -41,7 +41,10 @@ returns-2 c =
     no-room (a .out .now) (a .at) (dictionaryForm (a .count)) (dictionaryHeader (a .count)) _ _ (dictionary-formed (a .count) (d .before .if1 .left)) (size d) (c .before .in-bounds .ensures) (c .if2 .taken)
 
 put-header-requires : tie.Need-put-header-requires
-put-header-requires c κs = (lit≤ tt, lit≤ tt, rw (← size (c .before .before .before)) (room (c .before)))
+put-header-requires c κs =
+    let d = c .before .before .before in
+    let a = d .before .before .before .args in
+    (lit≤ tt, lit≤ tt, subst (λ (n : ℕ). a .at + n ≤ length (a .out .now)) (size d) (room (c .before)))
 
 add-end : tie.Need-add-end
 add-end c = let o = c .before .before .before .before in omega (arith, room o, o .before .before .before .before .before .good)
