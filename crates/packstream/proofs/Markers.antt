@@ -8,7 +8,7 @@ use native.Mathlib.Nat.{le-of-suc-le-suc, not-suc-le-zero, eq-or-lt-of-le}
 use native.Mathlib.Omega.{arith}
 use lib.Bits.{bitAnd, and-mask}
 use lib.Dec.{ltb, leb, eqb}
-use borrow.Author.Tests.{ltb-true, leb-true, eqb-true, lt-leb}
+use borrow.Author.Tests.{eq-eqb, ne-eqb, ltb-true, leb-true, eqb-true, lt-leb}
 use Rattle.slices.proofs.Below.{below}
 use Rattle.slices.proofs.Tests.{lt-or-ge}
 use Rattle.packstream.specs.Marker.{reserved, itself, small, sized, Row, table, lookup, markerOf, hasSize}
@@ -35,6 +35,13 @@ agree f g (suc n) e k h =
 -- a size of 1, 2 or 4 bytes
 abbrev pub sizedBy : Kind → ℕ → Marker
 sizedBy k width = cond (eqb width 8) reserved (sized k width 0)
+
+-- a marker that would say that its size has 8 bytes is reserved
+pub size-of-eight : (k : Kind) (width : ℕ) → width ≡ 8 → reserved ≡ sizedBy k width
+size-of-eight k width e = rw (eq-eqb width 8 e)
+
+pub size-of-fewer : (k : Kind) (width : ℕ) → (width ≡ 8 → ⊥) → sized k width 0 ≡ sizedBy k width
+size-of-fewer k width e = rw (ne-eqb width 8 e)
 
 -- C0 to C3 by the low two bits
 abbrev pub constantBy : ℕ → Marker

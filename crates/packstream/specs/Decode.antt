@@ -55,12 +55,16 @@ kindExtent s depth at m K.Reserved = E.Refused ReservedMarker at
 kindExtent s depth at m (K.Leaf k) = leafExtent s at k m
 kindExtent s depth at m (K.Container k) = cond (eqb depth 0) (E.Refused TooDeep at) (containerExtent s at k m)
 
--- "marker missing 7": its place is the message length
+-- "marker missing 7"; "for a missing marker, the message length" is its place
+abbrev pub missing : List ℕ → Extent
+missing s = E.Refused ValueTruncated (length s)
+
+-- the extent at an offset
 unfoldable pub extentAt : List ℕ → ℕ → ℕ → Extent
 extentAt s depth at =
     cond (ltb at (length s))
     (kindExtent s depth at (markerOf (getD s at 0)) (markerOf (getD s at 0) .kind))
-    (E.Refused ValueTruncated (length s))
+    (missing s)
 
 -- "at a key: 7, 8, then 11, then the String's checks"
 abbrev pub keyKindExtent : List ℕ → ℕ → Marker → Kind → Extent
@@ -68,12 +72,12 @@ keyKindExtent s at m K.Reserved = E.Refused ReservedMarker at
 keyKindExtent s at m (K.Leaf k) = cond (isString k) (leafExtent s at k m) (E.Refused KeyNotString at)
 keyKindExtent s at m (K.Container k) = E.Refused KeyNotString at
 
--- a key's marker missing: 7, as a value's
+-- the extent at an offset where a key is wanted
 unfoldable pub keyExtentAt : List ℕ → ℕ → Extent
 keyExtentAt s at =
     cond (ltb at (length s))
     (keyKindExtent s at (markerOf (getD s at 0)) (markerOf (getD s at 0) .kind))
-    (E.Refused ValueTruncated (length s))
+    (missing s)
 
 -- ---- reading from left to right
 

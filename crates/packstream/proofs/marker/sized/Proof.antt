@@ -1,6 +1,7 @@
 -- `packstream::marker::sized` meets its contract. Assumes nothing.
+use mathlib.Core.Path.{_∙_}
 use borrow.Author.Needs.{needs}
-use borrow.Author.Tests.{eq-eqb, ne-eqb}
+use Rattle.packstream.proofs.Markers.{size-of-eight, size-of-fewer}
 use Rattle.packstream.proofs.marker.sized.Statement.{statement}
 use Rattle.packstream.proofs.marker.sized.Tie as tie
 
@@ -8,10 +9,10 @@ reserved-requires : tie.Need-reserved-requires
 reserved-requires c κs = search needs
 
 returns : tie.Need-returns
-returns c = simp (eq-eqb _ _ (c .before .if1 .taken)) (c .reserved .ensures)
+returns c = let a = c .before .before .args in c .reserved .ensures ∙ size-of-eight (a .kind) (a .width) (c .before .if1 .taken)
 
 returns-2 : tie.Need-returns-2
-returns-2 c = simp (ne-eqb _ _ (c .if1 .left))
+returns-2 c = let a = c .before .args in size-of-fewer (a .kind) (a .width) (c .if1 .left)
 
 pub sized-spec : {M : Type 1} → statement M
 sized-spec = tie.close (tie.spec reserved-requires returns returns-2)
