@@ -8,3 +8,4 @@ pub mod Trees
 pub mod Lookups
 pub mod Fields
 pub mod Roots
+pub mod Places
