@@ -9,3 +9,5 @@ pub mod Lookups
 pub mod Fields
 pub mod Roots
 pub mod Places
+pub mod Summaries
+pub mod SummaryForms
