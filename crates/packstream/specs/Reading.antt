@@ -1,11 +1,13 @@
 -- What the readers answer: document 01, "Values". Assumes nothing.
 use Prim.Native.Nat.{ℕ}
+use mathlib.Core.Bool.{cond}
 use mathlib.Core.List.{List}
+use lib.Dec.{ltb}
 use lib.ListN.{length}
 use Rattle.refusal.specs.Numbers.{numberOf}
 use Rattle.refusal.specs.Answer.{Answer, result, refused}
 use Rattle.packstream.specs.Value.{Value, null, boolean, integer, float, bytes, string, list, dictionary, structure, count, countEntries, first, firstEntry}
-use Rattle.packstream.specs.Decode.{Parse, parsed, failed}
+use Rattle.packstream.specs.Decode.{Parse, parsed, failed, mostOpen}
 use Rattle.packstream.specs.declared.read.Head.the-variants as H
 use Rattle.packstream.specs.declared.read.Head.{Head}
 use Rattle.packstream.specs.declared.read.Reading.the-variants as R
@@ -46,6 +48,10 @@ told (R.Refused why place) = refused (numberOf why) place
 abbrev pub tellMessage : List ℕ → Answer Value → Answer Found
 tellMessage s (result v) = result (foundAt (length s) v)
 tellMessage s (refused number place) = refused number place
+
+-- "at most 16 containers may be open", whatever is asked for
+abbrev pub allowed : ℕ → ℕ
+allowed depth = cond (ltb mostOpen depth) mostOpen depth
 
 -- what is told of the value at an offset
 abbrev pub tellValue : Parse Value → Answer Found

@@ -3,7 +3,7 @@ ghost use mathlib.Core.Path.{_≡_};
 ghost use Prim.Native.Nat.{_≤_};
 ghost use lib.ListN.{length};
 ghost use Rattle.packstream.specs.Decode.{valueAt, valueIn, decode};
-ghost use Rattle.packstream.specs.Reading.{readingOf, told, tellMessage, tellValue};
+ghost use Rattle.packstream.specs.Reading.{allowed, readingOf, told, tellMessage, tellValue};
 use crate::extent::Extent;
 use crate::extent::extent_at;
 use crate::leaf::leaf_head;
@@ -61,9 +61,8 @@ fn read_long(message: &[u8], at: usize, depth: usize) -> Reading
     value(message, at, depth, &mut scratch, 0)
 }
 
-// Reads the value at `at` of a message, with room for `depth` open containers. Refuses with 6 at place 0 where the message is too long, and else
-// with 7 to 12, at the place of the leftmost failure.
-pub fn read_value(message: &[u8], at: usize, depth: usize) -> Reading
+// The value at `at`, with room for `depth` open containers. A message that is too long is refused before anything else.
+fn read_at(message: &[u8], at: usize, depth: usize) -> Reading
     ensures { λ r. ⌜ told r ≡ tellValue (valueIn (now (message .entry)) depth at) ⌝ }
 {
     if MOST_BYTES < message.len() {
@@ -78,11 +77,22 @@ pub fn read_value(message: &[u8], at: usize, depth: usize) -> Reading
     read_long(message, at, depth)
 }
 
+// Reads the value at `at` of a message, with room for `depth` open containers, of which there are never more than 16. Refuses with 6 at place 0
+// where the message is too long, and else with 7 to 12, at the place of the leftmost failure.
+pub fn read_value(message: &[u8], at: usize, depth: usize) -> Reading
+    ensures { λ r. ⌜ told r ≡ tellValue (valueIn (now (message .entry)) (allowed depth) at) ⌝ }
+{
+    if MOST_OPEN < depth {
+        return read_at(message, at, MOST_OPEN);
+    }
+    read_at(message, at, depth)
+}
+
 // Reads a whole message as one value. Refuses as `read_value` does, and with 13 where bytes are left over.
 pub fn read_message(message: &[u8]) -> Reading
     ensures { λ r. ⌜ told r ≡ tellMessage (now (message .entry)) (decode (now (message .entry))) ⌝ }
 {
-    let reading = read_value(message, 0, MOST_OPEN);
+    let reading = read_at(message, 0, MOST_OPEN);
     match reading {
         Reading::Value { head: _, end } => {
             if end == message.len() {

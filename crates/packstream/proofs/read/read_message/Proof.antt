@@ -7,8 +7,8 @@ use Rattle.packstream.proofs.Answers.{message-whole, message-trailing, 
 use Rattle.packstream.proofs.read.read_message.Statement.{statement}
 use Rattle.packstream.proofs.read.read_message.Tie as tie
 
-read-value-requires : tie.Need-read-value-requires
-read-value-requires c κs = search needs
+read-at-requires : tie.Need-read-at-requires
+read-at-requires c κs = search needs
 
 enum-known-reading : tie.Need-enum-known-reading
 enum-known-reading c = search needs
@@ -16,7 +16,7 @@ enum-known-reading c = search needs
 returns : tie.Need-returns
 returns c =
     let s = c .before .before .before .before .before .before .args .message .now in
-    let r = ap told (sym (c .before .before .reading .given .1)) ∙ c .before .before .before .before .read-value .ensures in
+    let r = ap told (sym (c .before .before .reading .given .1)) ∙ c .before .before .before .before .read-at .ensures in
     r ∙ message-whole s (valueIn s mostOpen 0) _ _ r (c .if1 .taken) ∙ ap (tellMessage s) (message-is s)
 
 enum-told : tie.Need-enum-told
@@ -25,15 +25,15 @@ enum-told c = search needs
 returns-2 : tie.Need-returns-2
 returns-2 c =
     let s = c .before .before .before .before .before .before .args .message .now in
-    let r = ap told (sym (c .before .before .reading .given .1)) ∙ c .before .before .before .before .read-value .ensures in
+    let r = ap told (sym (c .before .before .reading .given .1)) ∙ c .before .before .before .before .read-at .ensures in
     message-trailing s (valueIn s mostOpen 0) _ _ r (c .if1 .left) ∙ ap (tellMessage s) (message-is s)
 
 returns-3 : tie.Need-returns-3
 returns-3 c =
     let s = c .before .before .before .before .args .message .now in
-    let r = c .before .before .read-value .ensures in
+    let r = c .before .before .read-at .ensures in
     r ∙ message-refused s (valueIn s mostOpen 0) _ _ (ap told (sym (c .enum-told .given .1)) ∙ r) ∙ ap (tellMessage s) (message-is s)
 
 pub read-message-spec : {M : Type 1} → statement M
 read-message-spec =
-    tie.close (tie.spec read-value-requires enum-known-reading returns enum-told returns-2 returns-3)
+    tie.close (tie.spec read-at-requires enum-known-reading returns enum-told returns-2 returns-3)

@@ -1,32 +1,21 @@
 -- `packstream::read::read_value` meets its contract. Assumes nothing.
-use mathlib.Core.Path.{ap, _∙_}
 use borrow.Author.Needs.{needs}
-use Rattle.packstream.specs.Reading.{told, tellValue}
-use Rattle.packstream.specs.Decode.{valueAt}
-use Rattle.packstream.proofs.Answers.{told-reading, value-too-long, value-not-long}
+use borrow.Author.Tests.{lt-ltb, le-ltb}
+use Rattle.packstream.specs.Decode.{mostOpen}
 use Rattle.packstream.proofs.read.read_value.Statement.{statement}
 use Rattle.packstream.proofs.read.read_value.Tie as tie
 
-returns : tie.Need-returns
-returns c = let a = c .before .before .args in ap tellValue (value-too-long (a .message .now) (a .depth) (a .at) (c .if1 .taken))
+read-at-requires : tie.Need-read-at-requires
+read-at-requires c κs = search needs
 
-read-short-requires : tie.Need-read-short-requires
-read-short-requires c κs = search needs
+returns : tie.Need-returns
+returns c = rw (lt-ltb mostOpen _ (c .before .if1 .taken)) (c .read-at .ensures)
+
+read-at-requires-2 : tie.Need-read-at-requires-2
+read-at-requires-2 c κs = search needs
 
 returns-2 : tie.Need-returns-2
-returns-2 c =
-    let a = c .before .before .before .before .args in
-    ap told (c .read-short .ensures) ∙ told-reading (valueAt (a .message .now) (a .depth) (a .at))
-    ∙ ap tellValue (value-not-long (a .message .now) (a .depth) (a .at) (c .before .before .if1 .left))
-
-read-long-requires : tie.Need-read-long-requires
-read-long-requires c κs = search needs
-
-returns-3 : tie.Need-returns-3
-returns-3 c =
-    let a = c .before .before .before .before .args in
-    ap told (c .read-long .ensures) ∙ told-reading (valueAt (a .message .now) (a .depth) (a .at))
-    ∙ ap tellValue (value-not-long (a .message .now) (a .depth) (a .at) (c .before .before .if1 .left))
+returns-2 c = rw (le-ltb mostOpen _ (c .before .if1 .left)) (c .read-at2 .ensures)
 
 pub read-value-spec : {M : Type 1} → statement M
-read-value-spec = tie.close (tie.spec returns read-short-requires returns-2 read-long-requires returns-3)
+read-value-spec = tie.close (tie.spec read-at-requires returns read-at-requires-2 returns-2)
