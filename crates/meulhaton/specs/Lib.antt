@@ -5,3 +5,4 @@ pub mod Replies
 pub mod Calls
 pub mod Requests
 pub mod Summaries
+pub mod Claim

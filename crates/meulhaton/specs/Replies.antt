@@ -1,7 +1,7 @@
 -- What the calls answer, as numbers: document 01, "Connection record" and "Summaries". Assumes nothing.
 use Prim.Native.Nat.{ℕ}
 use mathlib.Core.Bool.{cond}
-use Rattle.refusal.specs.Answer.{Answer, result, refused}
+use Rattle.refusal.specs.Answer.{Answer, result, refused, left}
 use Rattle.connection.specs.declared.answers.Failure.the-variants.{StreamsFull, StreamUnknown, EngineFailed}
 use Rattle.connection.specs.declared.answers.Summary.{Summary}
 use Rattle.connection.specs.declared.answers.Summary.the-variants as S
@@ -44,10 +44,9 @@ replyOf (result (answered summary n)) = record { refusal = 0; said = 5; summary 
 replyOf (refused number place) = record { refusal = number; said = 0; summary = noSummary; place = place; number = 0; request = bare 0 }
 
 -- ---- after a call
--- the image of the record after a call, or, where it is refused, the image as it was
-abbrev pub left : Image → Connection → Answer Said → Image
-left i c (result said) = imageOf c
-left i c (refused number place) = i
+-- a call that is not refused leaves the image of the record after it; one that is refused, the image as it was
+abbrev pub leaves : Connection → Said → Image → Image
+leaves c said before = imageOf c
 
 abbrev pub afterCall : Image → After → Answered
-afterCall i a = record { image = left i (a .connection) (a .answer); reply = replyOf (a .answer) }
+afterCall i a = record { image = left (leaves (a .connection)) (a .answer) i; reply = replyOf (a .answer) }

@@ -15,13 +15,13 @@ use Rattle.messages.specs.declared.request.Transaction.{Transaction}
 use Rattle.messages.specs.declared.request.Request.{Request}
 use Rattle.messages.specs.declared.request.Request.the-variants as R
 use Rattle.messages.specs.Arrivals.{arrivalOf}
-use Rattle.meulhaton.specs.declared.requests.TextImage.{TextImage}
-use Rattle.meulhaton.specs.declared.requests.PlaceImage.{PlaceImage}
-use Rattle.meulhaton.specs.declared.requests.NumberImage.{NumberImage}
-use Rattle.meulhaton.specs.declared.requests.HelloImage.{HelloImage}
-use Rattle.meulhaton.specs.declared.requests.RunImage.{RunImage}
-use Rattle.meulhaton.specs.declared.requests.TransactionImage.{TransactionImage}
-use Rattle.meulhaton.specs.declared.requests.FieldsImage.{FieldsImage}
+use Rattle.meulhaton.specs.declared.fields.TextImage.{TextImage}
+use Rattle.meulhaton.specs.declared.fields.PlaceImage.{PlaceImage}
+use Rattle.meulhaton.specs.declared.fields.NumberImage.{NumberImage}
+use Rattle.meulhaton.specs.declared.fields.HelloImage.{HelloImage}
+use Rattle.meulhaton.specs.declared.fields.RunImage.{RunImage}
+use Rattle.meulhaton.specs.declared.fields.TransactionImage.{TransactionImage}
+use Rattle.meulhaton.specs.declared.fields.FieldsImage.{FieldsImage}
 use Rattle.meulhaton.specs.declared.requests.RequestRead.{RequestRead}
 use Rattle.meulhaton.specs.Image.{bare, requestImage}
 

@@ -1,9 +1,9 @@
--- `meulhaton::requests::fields_of` meets its contract. Assumes nothing.
+-- `meulhaton::fields::fields_of` meets its contract. Assumes nothing.
 use mathlib.Core.Path.{sym, ap, _∙_}
 use borrow.Author.Needs.{needs}
 use Rattle.meulhaton.specs.Requests.{fieldsOf}
-use Rattle.meulhaton.proofs.requests.fields_of.Statement.{statement}
-use Rattle.meulhaton.proofs.requests.fields_of.Tie as tie
+use Rattle.meulhaton.proofs.fields.fields_of.Statement.{statement}
+use Rattle.meulhaton.proofs.fields.fields_of.Tie as tie
 
 enum-known-request : tie.Need-enum-known-request
 enum-known-request c = search needs

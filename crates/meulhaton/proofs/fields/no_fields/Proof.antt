@@ -1,7 +1,7 @@
--- `meulhaton::requests::no_fields` meets its contract. Assumes nothing.
+-- `meulhaton::fields::no_fields` meets its contract. Assumes nothing.
 use borrow.Author.Needs.{needs}
-use Rattle.meulhaton.proofs.requests.no_fields.Statement.{statement}
-use Rattle.meulhaton.proofs.requests.no_fields.Tie as tie
+use Rattle.meulhaton.proofs.fields.no_fields.Statement.{statement}
+use Rattle.meulhaton.proofs.fields.no_fields.Tie as tie
 
 no-hello-requires : tie.Need-no-hello-requires
 no-hello-requires c κs = search needs

@@ -1,12 +1,12 @@
--- `meulhaton::requests::number_image` meets its contract. Assumes nothing.
+-- `meulhaton::fields::number_image` meets its contract. Assumes nothing.
 use mathlib.Core.Path.{sym, ap, _∙_}
 use lib.IntN.{ℤ}
 use mir.Facts.{toZ-ofZ}
 use borrow.Author.Needs.{sfits-of, needs}
 use Rattle.meulhaton.specs.Requests.{numberImage}
 use Rattle.messages.specs.declared.request.Number.the-variants.{Is}
-use Rattle.meulhaton.proofs.requests.number_image.Statement.{statement}
-use Rattle.meulhaton.proofs.requests.number_image.Tie as tie
+use Rattle.meulhaton.proofs.fields.number_image.Statement.{statement}
+use Rattle.meulhaton.proofs.fields.number_image.Tie as tie
 
 enum-told : tie.Need-enum-told
 enum-told c = search needs

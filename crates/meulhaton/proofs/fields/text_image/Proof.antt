@@ -1,9 +1,9 @@
--- `meulhaton::requests::text_image` meets its contract. Assumes nothing.
+-- `meulhaton::fields::text_image` meets its contract. Assumes nothing.
 use mathlib.Core.Path.{sym, ap, _∙_}
 use borrow.Author.Needs.{needs}
 use Rattle.meulhaton.specs.Requests.{textImage}
-use Rattle.meulhaton.proofs.requests.text_image.Statement.{statement}
-use Rattle.meulhaton.proofs.requests.text_image.Tie as tie
+use Rattle.meulhaton.proofs.fields.text_image.Statement.{statement}
+use Rattle.meulhaton.proofs.fields.text_image.Tie as tie
 
 enum-told : tie.Need-enum-told
 enum-told c = search needs

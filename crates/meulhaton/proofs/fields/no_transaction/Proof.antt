@@ -1,7 +1,7 @@
--- `meulhaton::requests::no_transaction` meets its contract. Assumes nothing.
+-- `meulhaton::fields::no_transaction` meets its contract. Assumes nothing.
 use borrow.Author.Needs.{needs}
-use Rattle.meulhaton.proofs.requests.no_transaction.Statement.{statement}
-use Rattle.meulhaton.proofs.requests.no_transaction.Tie as tie
+use Rattle.meulhaton.proofs.fields.no_transaction.Statement.{statement}
+use Rattle.meulhaton.proofs.fields.no_transaction.Tie as tie
 
 place-image-requires : tie.Need-place-image-requires
 place-image-requires c κs = search needs

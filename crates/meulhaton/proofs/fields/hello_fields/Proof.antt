@@ -1,7 +1,7 @@
--- `meulhaton::requests::hello_fields` meets its contract. Assumes nothing.
+-- `meulhaton::fields::hello_fields` meets its contract. Assumes nothing.
 use borrow.Author.Needs.{needs}
-use Rattle.meulhaton.proofs.requests.hello_fields.Statement.{statement}
-use Rattle.meulhaton.proofs.requests.hello_fields.Tie as tie
+use Rattle.meulhaton.proofs.fields.hello_fields.Statement.{statement}
+use Rattle.meulhaton.proofs.fields.hello_fields.Tie as tie
 
 span-image-requires : tie.Need-span-image-requires
 span-image-requires c κs = search needs

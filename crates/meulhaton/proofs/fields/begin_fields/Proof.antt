@@ -1,7 +1,7 @@
--- `meulhaton::requests::begin_fields` meets its contract. Assumes nothing.
+-- `meulhaton::fields::begin_fields` meets its contract. Assumes nothing.
 use borrow.Author.Needs.{needs}
-use Rattle.meulhaton.proofs.requests.begin_fields.Statement.{statement}
-use Rattle.meulhaton.proofs.requests.begin_fields.Tie as tie
+use Rattle.meulhaton.proofs.fields.begin_fields.Statement.{statement}
+use Rattle.meulhaton.proofs.fields.begin_fields.Tie as tie
 
 no-hello-requires : tie.Need-no-hello-requires
 no-hello-requires c κs = search needs

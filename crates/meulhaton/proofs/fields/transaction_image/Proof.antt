@@ -1,7 +1,7 @@
--- `meulhaton::requests::transaction_image` meets its contract. Assumes nothing.
+-- `meulhaton::fields::transaction_image` meets its contract. Assumes nothing.
 use borrow.Author.Needs.{needs}
-use Rattle.meulhaton.proofs.requests.transaction_image.Statement.{statement}
-use Rattle.meulhaton.proofs.requests.transaction_image.Tie as tie
+use Rattle.meulhaton.proofs.fields.transaction_image.Statement.{statement}
+use Rattle.meulhaton.proofs.fields.transaction_image.Tie as tie
 
 place-image-requires : tie.Need-place-image-requires
 place-image-requires c κs = search needs

@@ -1,7 +1,7 @@
--- `meulhaton::requests::run_fields` meets its contract. Assumes nothing.
+-- `meulhaton::fields::run_fields` meets its contract. Assumes nothing.
 use borrow.Author.Needs.{needs}
-use Rattle.meulhaton.proofs.requests.run_fields.Statement.{statement}
-use Rattle.meulhaton.proofs.requests.run_fields.Tie as tie
+use Rattle.meulhaton.proofs.fields.run_fields.Statement.{statement}
+use Rattle.meulhaton.proofs.fields.run_fields.Tie as tie
 
 span-image-requires : tie.Need-span-image-requires
 span-image-requires c κs = search needs

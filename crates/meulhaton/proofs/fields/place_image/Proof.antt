@@ -1,9 +1,9 @@
--- `meulhaton::requests::place_image` meets its contract. Assumes nothing.
+-- `meulhaton::fields::place_image` meets its contract. Assumes nothing.
 use mathlib.Core.Path.{sym, ap, _∙_}
 use borrow.Author.Needs.{needs}
 use Rattle.meulhaton.specs.Requests.{placeImage, placed}
-use Rattle.meulhaton.proofs.requests.place_image.Statement.{statement}
-use Rattle.meulhaton.proofs.requests.place_image.Tie as tie
+use Rattle.meulhaton.proofs.fields.place_image.Statement.{statement}
+use Rattle.meulhaton.proofs.fields.place_image.Tie as tie
 
 enum-told : tie.Need-enum-told
 enum-told c = search needs
