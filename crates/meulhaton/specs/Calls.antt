@@ -13,20 +13,25 @@ use Rattle.meulhaton.specs.declared.replies.Answered.{Answered}
 use Rattle.meulhaton.specs.Image.{requestOf, isRequest, names, recordOf}
 use Rattle.meulhaton.specs.Replies.{replyOf, afterCall}
 
--- outcomes by their numbers
+-- ---- outcomes by their numbers
+-- success, success with more, failure; any other number is taken for the last
 abbrev pub outcomeOf : ℕ → Outcome
 outcomeOf n = cond (eqb n 0) Success (cond (eqb n 1) More Failure)
 
+-- there are three
 abbrev pub isOutcome : OutcomeImage → Bool
 isOutcome o = leb (o .number) 2
 
+-- ---- the calls
 -- 24 where a number names nothing, before anything else
 abbrev pub broken : Image → Answered
 broken i = record { image = i; reply = replyOf (refused 24 0) }
 
+-- a call, if every number names something
 abbrev pub called : Image → Bool → After → Answered
 called i named a = cond named (afterCall i a) (broken i)
 
+-- each call: the call on the record that the image is of
 unfoldable pub arriveOn : Image → RequestImage → Answered
 arriveOn i r = called i (names i && isRequest r) (arriveOf (recordOf i) (requestOf r))
 

@@ -24,6 +24,7 @@ use Rattle.meulhaton.specs.Replies.{summaryImage, replyOf}
 use Rattle.meulhaton.specs.Calls.{outcomeOf, isOutcome, arriveOn, takeOn, reportOn, closeOn}
 use Rattle.meulhaton.specs.Summaries.{summaryOf, isSummary}
 
+-- an outcome's number
 abbrev pub outcomeImage : Outcome → OutcomeImage
 outcomeImage Success = record { number = 0 }
 outcomeImage More = record { number = 1 }
@@ -52,6 +53,7 @@ abbrev pub replies : Image → List Call → List Reply
 replies i [] = []
 replies i (x ∷ xs) = callOn i x .reply ∷ replies (callOn i x .image) xs
 
+-- the answers of a list of events, as numbers
 abbrev pub repliesTo : List Event → List Reply
 repliesTo [] = []
 repliesTo (e ∷ es) = replyOf (e .answer) ∷ repliesTo es

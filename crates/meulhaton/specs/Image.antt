@@ -48,9 +48,11 @@ requestOf p =
 abbrev pub batch : ℕ → ℤ → ℤ → RequestImage
 batch kind n qid = record { kind = kind; n = n; qid = qid }
 
+-- the others have zeros
 abbrev pub bare : ℕ → RequestImage
 bare kind = batch kind (pos 0) (pos 0)
 
+-- a request's tag, and its numbers
 abbrev pub requestImage : Request → RequestImage
 requestImage Hello = bare (tag HELLO)
 requestImage Goodbye = bare (tag GOODBYE)
@@ -66,6 +68,7 @@ requestImage (Pull n qid) = batch (tag PULL) n qid
 abbrev pub isRequest : RequestImage → Bool
 isRequest p = eqb (requestImage (requestOf p) .kind) (p .kind)
 
+-- a number that names none
 abbrev pub unnamed : RequestImage → Bool
 unnamed p = not (isRequest p)
 
@@ -74,12 +77,14 @@ unnamed p = not (isRequest p)
 unfoldable pub names : Image → Bool
 names i = isState (i .state) && (leb (i .«in_flight») 1 && (leb (i .waiting) 32 && not (any unnamed (take (i .waiting) (i .requests)))))
 
+-- a place of the queue
 abbrev pub slotOf : RequestImage → Slot
 slotOf p = slot (requestOf p)
 
 abbrev pub slotImage : Slot → RequestImage
 slotImage s = requestImage (requestIn s)
 
+-- the record
 abbrev pub recordOf : Image → Connection
 recordOf i = record {
   control = record {
@@ -93,6 +98,7 @@ recordOf i = record {
   queue = record { slots = map slotOf (i .requests) };
 }
 
+-- the image
 abbrev pub imageOf : Connection → Image
 imageOf c = record {
   state = rank (c .control .state);

@@ -14,13 +14,15 @@ use Rattle.meulhaton.specs.declared.replies.Reply.{Reply}
 use Rattle.meulhaton.specs.declared.replies.Answered.{Answered}
 use Rattle.meulhaton.specs.Image.{bare, requestImage, imageOf}
 
--- ---- summaries by their numbers
+-- ---- summaries by their numbers: 1 IGNORED, 2 to 4 SUCCESS, 5 to 7 FAILURE
 abbrev pub summaryNumbers : ℕ → ℕ → SummaryImage
 summaryNumbers kind value = record { kind = kind; value = value }
 
+-- none
 abbrev pub noSummary : SummaryImage
 noSummary = summaryNumbers 0 0
 
+-- the value is has_more or qid
 abbrev pub summaryImage : Summary → SummaryImage
 summaryImage S.Ignored = summaryNumbers 1 0
 summaryImage S.Success = summaryNumbers 2 0
@@ -35,6 +37,7 @@ summaryImage (S.Failure EngineFailed) = summaryNumbers 7 0
 abbrev pub saying : ℕ → ℕ → Reply
 saying number said = record { refusal = number; said = said; summary = noSummary; place = 0; number = 0; request = bare 0 }
 
+-- 1 queued, 2 closed, 3 idle, 4 handed over with a request and its number, 5 answered with a summary and its request's number
 abbrev pub replyOf : Answer Said → Reply
 replyOf (result queued) = saying 0 1
 replyOf (result closed) = saying 0 2
@@ -48,5 +51,6 @@ replyOf (refused number place) = record { refusal = number; said = 0; summary = 
 abbrev pub leaves : Connection → Said → Image → Image
 leaves c said before = imageOf c
 
+-- what a call leaves, and what it answers
 abbrev pub afterCall : Image → After → Answered
 afterCall i a = record { image = left (leaves (a .connection)) (a .answer) i; reply = replyOf (a .answer) }

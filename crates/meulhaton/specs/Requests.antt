@@ -30,6 +30,7 @@ use Rattle.meulhaton.specs.Image.{bare, requestImage}
 abbrev pub spanImage : Span → TextImage
 spanImage s = record { present = 1; start = s .start; size = s .size }
 
+-- a String
 abbrev pub textImage : Text → TextImage
 textImage T.Absent = record { present = 0; start = 0; size = 0 }
 textImage (T.At s) = spanImage s
@@ -38,10 +39,12 @@ textImage (T.At s) = spanImage s
 abbrev pub placed : ℕ → PlaceImage
 placed offset = record { present = 1; offset = offset }
 
+-- a List or a Dictionary
 abbrev pub placeImage : Place → PlaceImage
 placeImage P.Absent = record { present = 0; offset = 0 }
 placeImage (P.At offset) = placed offset
 
+-- an Integer
 abbrev pub numberImage : Number → NumberImage
 numberImage N.Absent = record { present = 0; value = pos 0 }
 numberImage (N.Is z) = record { present = 1; value = z }
@@ -53,6 +56,7 @@ modeNumber M.Read = 1
 modeNumber M.Write = 2
 
 -- ---- the fields of each request
+-- HELLO
 abbrev pub helloImage : Span → Text → Text → Text → Place → HelloImage
 helloImage agent scheme principal credentials routing = record {
   «user_agent» = spanImage agent;
@@ -71,12 +75,14 @@ noHello = record {
   routing = placeImage P.Absent;
 }
 
+-- RUN
 abbrev pub runImage : Span → ℕ → RunImage
 runImage query parameters = record { query = spanImage query; parameters = placed parameters }
 
 abbrev pub noRun : RunImage
 noRun = record { query = textImage T.Absent; parameters = placeImage P.Absent }
 
+-- RUN and BEGIN
 abbrev pub transactionImage : Transaction → TransactionImage
 transactionImage t = record {
   bookmarks = placeImage (t .bookmarks);
@@ -92,7 +98,7 @@ noTransaction = transactionImage (record { bookmarks = P.Absent; «tx_timeout» 
 abbrev pub noFields : FieldsImage
 noFields = record { hello = noHello; run = noRun; transaction = noTransaction }
 
--- those of other requests are absent
+-- the fields of a request; those of other requests are absent
 abbrev pub fieldsOf : Request → FieldsImage
 fieldsOf (R.Hello agent scheme principal credentials routing) = record { hello = helloImage agent scheme principal credentials routing; run = noRun; transaction = noTransaction }
 fieldsOf R.Goodbye = noFields

@@ -25,6 +25,7 @@ abbrev pub outputOf : Answer ℕ → Output
 outputOf (result end) = record { refusal = 0; place = 0; end = end }
 outputOf (refused number place) = record { refusal = number; place = place; end = 0 }
 
+-- what is named, if anything is
 abbrev pub named : {A B : Type 0} → Option A → (A → Answer B) → Answer B
 named (some a) f = f a
 named none f = refused 24 0
