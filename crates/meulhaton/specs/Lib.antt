@@ -1,0 +1,8 @@
+pub mod Wire
+pub mod Values
+pub mod Image
+pub mod Replies
+pub mod Calls
+pub mod Requests
+pub mod Summaries
+pub mod Claim
