@@ -1,1 +1,6 @@
 pub mod Turns
+pub mod Receiving
+pub mod Replies
+pub mod Writing
+pub mod KeepAlive
+pub mod Idle

@@ -102,11 +102,11 @@ module _ {c₀ c : Connection} {sent : List Sent} {count : ℕ} (w : Serves c₀
         few = omega arith;
         places = length-set sent count x ∙ w .places;
         rest =
-          ap (λ (l : List Summary). record { summaries = l; end = later .end; connection = later .connection })
-          (ap (λ (l : List Sent). map summaryIn l ++ later .summaries) t
-          ∙ ap (λ (l : List Summary). l ++ later .summaries) (map-append (take count sent) (x ∷ []))
-          ∙ append-assoc (map summaryIn (take count sent)) (s ∷ []) (later .summaries))
-          ∙ went more r (T.Answered s number) h e;
+            ap (λ (l : List Summary). record { summaries = l; end = later .end; connection = later .connection })
+            (ap (λ (l : List Sent). map summaryIn l ++ later .summaries) t
+            ∙ ap (λ (l : List Summary). l ++ later .summaries) (map-append (take count sent) (x ∷ []))
+            ∙ append-assoc (map summaryIn (take count sent)) (s ∷ []) (later .summaries))
+            ∙ went more r (T.Answered s number) h e;
       }
 
   -- no more summaries
