@@ -4,3 +4,4 @@ pub mod Replies
 pub mod Writing
 pub mod KeepAlive
 pub mod Idle
+pub mod Fitting
