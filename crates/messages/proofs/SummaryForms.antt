@@ -104,11 +104,11 @@ summary-back (S.Failure F.StreamUnknown) = refl
 summary-back (S.Failure F.EngineFailed) = refl
 
 -- ---- their lengths
-record Sized (n : ℕ) : Type 0 where
-  low : 1 ≤ n
-  high : n ≤ 60
+pub record Sized (n : ℕ) : Type 0 where
+  pub low : 1 ≤ n
+  pub high : n ≤ 60
 
-sized : (s : Summary) → Sized (length (packSummary s))
+pub sized : (s : Summary) → Sized (length (packSummary s))
 sized S.Ignored = let e = ap length ignored-form in record { low = omega (arith, e); high = omega (arith, e) }
 sized S.Success = let e = ap length success-form in record { low = omega (arith, e); high = omega (arith, e) }
 sized (S.HasMore b) = let e = has-more-size b in record { low = omega (arith, e); high = omega (arith, e) }

@@ -1,0 +1,6 @@
+pub mod Text
+pub mod Serving
+pub mod Receiving
+pub mod Session
+pub mod KeepAlive
+pub mod Idle
