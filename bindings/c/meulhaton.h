@@ -140,7 +140,7 @@ typedef struct {
  * Refusals: 6 (over 16,384 bytes); then the leftmost of 7, 8, 9, 10, 11, 12; then 13. */
 meulhaton_value meulhaton_read_message(const uint8_t *message, size_t message_length);
 
-/* Reads the value at an offset of a message, with room for depth open containers (a whole message has room for 16).
+/* Reads the value at an offset of a message, with room for depth open containers; more than 16 is as 16, which a whole message has.
  * Refusals: 6; then the leftmost of 7, 8, 9, 10, 11, 12. */
 meulhaton_value meulhaton_read_value(const uint8_t *message, size_t message_length, size_t at, size_t depth);
 

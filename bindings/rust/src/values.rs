@@ -59,7 +59,7 @@ pub fn read_message(message: &[u8]) -> Result<Found, Refusal> {
     found(unsafe { raw::meulhaton_read_message(message.as_ptr(), message.len()) })
 }
 
-/// Reads the value at an offset of a message, with room for `depth` open containers.
+/// Reads the value at an offset of a message, with room for `depth` open containers; more than 16 is as 16, which a whole message has.
 ///
 /// Refuses with 6 where the message has over 16,384 bytes, then with the leftmost of 7 to 12.
 pub fn read_value(message: &[u8], at: usize, depth: usize) -> Result<Found, Refusal> {

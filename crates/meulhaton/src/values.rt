@@ -3,7 +3,7 @@ ghost use mathlib.Core.Path.{_≡_};
 ghost use Rattle.refusal.specs.Answer.{result, left};
 ghost use Rattle.packstream.specs.Decode.{valueIn, decode};
 ghost use Rattle.packstream.specs.Reading as reading;
-ghost use Rattle.packstream.specs.Reading.{tellMessage, tellValue};
+ghost use Rattle.packstream.specs.Reading.{allowed, tellMessage, tellValue};
 ghost use Rattle.packstream.specs.Packing as packing;
 ghost use Rattle.packstream.specs.Packing.{packBoolean, packInteger, stringForm, fitted, leaves, telling};
 ghost use Rattle.meulhaton.specs.Wire.{outputOf};
@@ -115,10 +115,10 @@ pub extern "C" fn meulhaton_read_message(message: &[u8]) -> ValueRead
     value_answer(packstream::read::read_message(message))
 }
 
-// The value at `at`, with room for `depth` open containers: `packstream::read::read_value`.
+// The value at `at`, with room for `depth` open containers, of which there are never more than 16: `packstream::read::read_value`.
 #[no_mangle]
 pub extern "C" fn meulhaton_read_value(message: &[u8], at: usize, depth: usize) -> ValueRead
-    ensures { λ r. ⌜ r ≡ valueAnswer (tellValue (valueIn (now (message .entry)) depth at)) ⌝ }
+    ensures { λ r. ⌜ r ≡ valueAnswer (tellValue (valueIn (now (message .entry)) (allowed depth) at)) ⌝ }
 {
     value_answer(packstream::read::read_value(message, at, depth))
 }
