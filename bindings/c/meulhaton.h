@@ -152,6 +152,11 @@ meulhaton_output meulhaton_pack_integer(int64_t number, uint8_t *out, size_t out
 /* A String, given its bytes. Refusals, in this order: 6, 10, 21. */
 meulhaton_output meulhaton_pack_string(const uint8_t *text, size_t text_length, uint8_t *out, size_t out_length, size_t at);
 
+/* The header of a Dictionary of `count` entries, or of a Structure of `count` fields: what it holds is packed behind it, piece by piece.
+ * Refusals, in this order: 6 (over 16,384 entries, or 15 fields), 21. */
+meulhaton_output meulhaton_pack_dictionary(size_t count, uint8_t *out, size_t out_length, size_t at);
+meulhaton_output meulhaton_pack_structure(uint8_t tag, size_t count, uint8_t *out, size_t out_length, size_t at);
+
 /* ---- requests: a kind is the request's tag */
 enum {
     MEULHATON_HELLO = 0x01,

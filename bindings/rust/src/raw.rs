@@ -172,6 +172,8 @@ extern "C" {
     pub fn meulhaton_pack_boolean(value: bool, out: *mut u8, out_length: usize, at: usize) -> Output;
     pub fn meulhaton_pack_integer(number: i64, out: *mut u8, out_length: usize, at: usize) -> Output;
     pub fn meulhaton_pack_string(text: *const u8, text_length: usize, out: *mut u8, out_length: usize, at: usize) -> Output;
+    pub fn meulhaton_pack_dictionary(count: usize, out: *mut u8, out_length: usize, at: usize) -> Output;
+    pub fn meulhaton_pack_structure(tag: u8, count: usize, out: *mut u8, out_length: usize, at: usize) -> Output;
     pub fn meulhaton_read_request(minor: u8, message: *const u8, message_length: usize) -> RequestRead;
     pub fn meulhaton_pack_summary(summary: SummaryImage, out: *mut u8, out_length: usize, at: usize) -> Output;
     pub fn meulhaton_fresh() -> Image;

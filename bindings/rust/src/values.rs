@@ -86,3 +86,15 @@ pub fn pack_integer(number: i64, out: &mut [u8], at: usize) -> Result<usize, Ref
 pub fn pack_string(text: &[u8], out: &mut [u8], at: usize) -> Result<usize, Refusal> {
     packed(unsafe { raw::meulhaton_pack_string(text.as_ptr(), text.len(), out.as_mut_ptr(), out.len(), at) })
 }
+
+/// Packs the header of a Dictionary of `count` entries, as `pack_boolean` does; its keys and values are packed behind it. Refuses with 6
+/// where they are over 16,384, then with 21.
+pub fn pack_dictionary(count: usize, out: &mut [u8], at: usize) -> Result<usize, Refusal> {
+    packed(unsafe { raw::meulhaton_pack_dictionary(count, out.as_mut_ptr(), out.len(), at) })
+}
+
+/// Packs the header of a Structure of `count` fields, as `pack_boolean` does; its fields are packed behind it. Refuses with 6 where they
+/// are over 15, then with 21.
+pub fn pack_structure(tag: u8, count: usize, out: &mut [u8], at: usize) -> Result<usize, Refusal> {
+    packed(unsafe { raw::meulhaton_pack_structure(tag, count, out.as_mut_ptr(), out.len(), at) })
+}

@@ -94,6 +94,12 @@ fn packing() {
     assert_eq!(out, [0xB1, 0x70, 0xA1, 0x83, 0x71, 0x69, 0x64, 0x05]);
     assert_eq!(pack_summary(Summary::HasMore(false), &mut out, 0), Err(refused(21, 0)));
     assert_eq!(out, [0xB1, 0x70, 0xA1, 0x83, 0x71, 0x69, 0x64, 0x05]);
+    assert_eq!(pack_structure(0x70, 1, &mut out, 0), Ok(2));
+    assert_eq!(pack_dictionary(16, &mut out, 2), Ok(4));
+    assert_eq!(out, [0xB1, 0x70, 0xD8, 16, 0x71, 0x69, 0x64, 0x05]);
+    assert_eq!(pack_structure(0x70, 16, &mut out, 0), Err(refused(6, 0)));
+    assert_eq!(pack_dictionary(16_385, &mut out, 0), Err(refused(6, 0)));
+    assert_eq!(pack_dictionary(1, &mut out, 8), Err(refused(21, 0)));
     let mut long = [0; 60];
     assert_eq!(pack_summary(Summary::Failure(Failure::StreamUnknown), &mut long, 0), Ok(60));
     for (kind, value) in [(0, 0), (8, 0), (1, 1), (3, 2), (7, 1)] {

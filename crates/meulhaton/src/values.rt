@@ -5,7 +5,7 @@ ghost use Rattle.packstream.specs.Decode.{valueIn, decode};
 ghost use Rattle.packstream.specs.Reading as reading;
 ghost use Rattle.packstream.specs.Reading.{allowed, tellMessage, tellValue};
 ghost use Rattle.packstream.specs.Packing as packing;
-ghost use Rattle.packstream.specs.Packing.{packBoolean, packInteger, stringForm, fitted, leaves, telling};
+ghost use Rattle.packstream.specs.Packing.{packBoolean, packInteger, stringForm, dictionaryForm, structureForm, fitted, leaves, telling};
 ghost use Rattle.meulhaton.specs.Wire.{outputOf};
 ghost use Rattle.meulhaton.specs.Values.{plain, lying, headImage, valueAnswer};
 use crate::wire::Output;
@@ -167,5 +167,30 @@ pub extern "C" fn meulhaton_pack_string(text: &[u8], out: &mut [u8], at: usize) 
     ensures filled { λ _. ⌜ now (out .exit) ≡ left (leaves at) (fitted (now (out .entry)) at (stringForm (now (text .entry)))) (now (out .entry)) ⌝ }
 {
     let done = packstream::pack::pack_string(text, out, at);
+    packed(done)
+}
+
+// The header of a Dictionary: `packstream::pack::pack_dictionary`.
+#[no_mangle]
+pub extern "C" fn meulhaton_pack_dictionary(count: usize, out: &mut [u8], at: usize) -> Output
+    ensures answer { λ r. ⌜ r ≡ outputOf (telling at (fitted (now (out .entry)) at (dictionaryForm count))) ⌝ }
+    ensures filled { λ _. ⌜ now (out .exit) ≡ left (leaves at) (fitted (now (out .entry)) at (dictionaryForm count)) (now (out .entry)) ⌝ }
+{
+    let done = packstream::pack::pack_dictionary(count, out, at);
+    packed(done)
+}
+
+// The header of a Structure: `packstream::pack::pack_structure`.
+#[no_mangle]
+pub extern "C" fn meulhaton_pack_structure(
+    tag: u8,
+    count: usize,
+    out: &mut [u8],
+    at: usize,
+) -> Output
+    ensures answer { λ r. ⌜ r ≡ outputOf (telling at (fitted (now (out .entry)) at (structureForm tag count))) ⌝ }
+    ensures filled { λ _. ⌜ now (out .exit) ≡ left (leaves at) (fitted (now (out .entry)) at (structureForm tag count)) (now (out .entry)) ⌝ }
+{
+    let done = packstream::pack::pack_structure(tag, count, out, at);
     packed(done)
 }
