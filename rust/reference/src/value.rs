@@ -46,6 +46,14 @@ pub fn read(message: &[u8]) -> Result<Value<'_>> {
     Ok(value)
 }
 
+/// Reads the value whose marker is at `at`, with room for `depth` open containers, and answers the offset behind it.
+/// What follows is not looked at. Refusals: 6, then 7 to 12.
+pub fn read_at(message: &[u8], at: usize, depth: usize) -> Result<(Value<'_>, usize)> {
+    let mut reader = Reader { at: at.min(message.len()), ..Reader::new(message)? };
+    let value = reader.value(depth)?;
+    Ok((value, reader.at))
+}
+
 /// The same reading, but that each key is compared with all earlier ones of its dictionary and never looked up.
 pub fn read_comparing_keys(message: &[u8]) -> Result<Value<'_>> {
     let mut reader = Reader { looks_up: false, ..Reader::new(message)? };
