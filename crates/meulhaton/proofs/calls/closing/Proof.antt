@@ -1,0 +1,51 @@
+-- `meulhaton::calls::closing` meets its contract. Assumes nothing.
+use mathlib.Core.Path.{sym, ap, _∙_}
+use borrow.Author.Tests.{not-true, not-false}
+use borrow.Author.Needs.{needs}
+use Rattle.connection.specs.Record.{closeOf}
+use Rattle.meulhaton.specs.Image.{names, recordOf}
+use Rattle.meulhaton.specs.Replies.{afterCall}
+use Rattle.meulhaton.specs.Calls.{closeOn, broken}
+use Rattle.meulhaton.proofs.Choices.{chosen, other}
+use Rattle.meulhaton.proofs.calls.closing.Statement.{statement}
+use Rattle.meulhaton.proofs.calls.closing.Tie as tie
+
+names-requires : tie.Need-names-requires
+names-requires c κs = search needs
+
+refuse-requires : tie.Need-refuse-requires
+refuse-requires c κs = search needs
+
+returns : tie.Need-returns
+unfolding closeOn
+returns c =
+    let i = c .before .before .before .args .image in
+    c .refuse .ensures ∙ other (names i) (afterCall i (closeOf (recordOf i))) (broken i) (sym (c .before .before .names .ensures) ∙ not-true _ (c .before .if1 .taken))
+
+record-of-requires : tie.Need-record-of-requires
+record-of-requires c κs = search needs
+
+close-requires : tie.Need-close-requires
+close-requires c κs = search needs
+
+closed-requires : tie.Need-closed-requires
+closed-requires c κs = search needs
+
+returns-2 : tie.Need-returns-2
+unfolding closeOn
+returns-2 c =
+    let i = c .before .before .before .before .before .args .image in
+    c .closed .ensures ∙ ap (afterCall i) (c .before .close .ensures ∙ ap closeOf (c .before .before .record-of .ensures))
+    ∙ chosen (names i) (afterCall i (closeOf (recordOf i))) (broken i) (sym (c .before .before .before .before .names .ensures) ∙ not-false _ (c .before .before .before .if1 .left))
+
+pub closing-spec : {M : Type 1} → statement M
+closing-spec =
+    tie.close
+    (tie.spec
+    names-requires
+    refuse-requires
+    returns
+    record-of-requires
+    close-requires
+    closed-requires
+    returns-2)

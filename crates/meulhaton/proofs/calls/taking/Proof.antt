@@ -1,0 +1,51 @@
+-- `meulhaton::calls::taking` meets its contract. Assumes nothing.
+use mathlib.Core.Path.{sym, ap, _∙_}
+use borrow.Author.Tests.{not-true, not-false}
+use borrow.Author.Needs.{needs}
+use Rattle.connection.specs.Record.{takeOf}
+use Rattle.meulhaton.specs.Image.{names, recordOf}
+use Rattle.meulhaton.specs.Replies.{afterCall}
+use Rattle.meulhaton.specs.Calls.{takeOn, broken}
+use Rattle.meulhaton.proofs.Choices.{chosen, other}
+use Rattle.meulhaton.proofs.calls.taking.Statement.{statement}
+use Rattle.meulhaton.proofs.calls.taking.Tie as tie
+
+names-requires : tie.Need-names-requires
+names-requires c κs = search needs
+
+refuse-requires : tie.Need-refuse-requires
+refuse-requires c κs = search needs
+
+returns : tie.Need-returns
+unfolding takeOn
+returns c =
+    let i = c .before .before .before .args .image in
+    c .refuse .ensures ∙ other (names i) (afterCall i (takeOf (recordOf i))) (broken i) (sym (c .before .before .names .ensures) ∙ not-true _ (c .before .if1 .taken))
+
+record-of-requires : tie.Need-record-of-requires
+record-of-requires c κs = search needs
+
+take-requires : tie.Need-take-requires
+take-requires c κs = search needs
+
+taken-requires : tie.Need-taken-requires
+taken-requires c κs = search needs
+
+returns-2 : tie.Need-returns-2
+unfolding takeOn
+returns-2 c =
+    let i = c .before .before .before .before .before .args .image in
+    c .taken .ensures ∙ ap (afterCall i) (c .before .take .ensures ∙ ap takeOf (c .before .before .record-of .ensures))
+    ∙ chosen (names i) (afterCall i (takeOf (recordOf i))) (broken i) (sym (c .before .before .before .before .names .ensures) ∙ not-false _ (c .before .before .before .if1 .left))
+
+pub taking-spec : {M : Type 1} → statement M
+taking-spec =
+    tie.close
+    (tie.spec
+    names-requires
+    refuse-requires
+    returns
+    record-of-requires
+    take-requires
+    taken-requires
+    returns-2)

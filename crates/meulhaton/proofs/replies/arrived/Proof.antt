@@ -1,0 +1,67 @@
+-- `meulhaton::replies::arrived` meets its contract. Assumes nothing.
+use mathlib.Core.Path.{sym, ap, _∙_}
+use borrow.Author.Needs.{needs}
+use Rattle.meulhaton.specs.Replies.{afterCall}
+use Rattle.meulhaton.proofs.Leaving.{gave}
+use Rattle.connection.specs.Table.{queued, closed}
+use Rattle.connection.specs.Answers.{toldArrival}
+use Rattle.connection.specs.declared.answers.Arrival.{Arrival}
+use Rattle.meulhaton.proofs.replies.arrived.Statement.{statement}
+use Rattle.meulhaton.proofs.replies.arrived.Tie as tie
+
+enum-told : tie.Need-enum-told
+enum-told c = search needs
+
+saying-requires : tie.Need-saying-requires
+saying-requires c κs = search needs
+
+done-requires : tie.Need-done-requires
+done-requires c κs = search needs
+
+enum-told-2 : tie.Need-enum-told-2
+enum-told-2 c = search needs
+
+saying-requires-2 : tie.Need-saying-requires-2
+saying-requires-2 c κs = search needs
+
+done-requires-2 : tie.Need-done-requires-2
+done-requires-2 c κs = search needs
+
+enum-known-answer : tie.Need-enum-known-answer
+enum-known-answer c = search needs
+
+refuse-requires : tie.Need-refuse-requires
+refuse-requires c κs = search needs
+
+returns : tie.Need-returns
+returns c =
+    let a = c .before .before .before .before .before .args in
+    gave (a .image) (a .after .connection) queued (c .before .saying .ensures) (c .done .ensures)
+    ∙ ap (λ (s : Arrival). afterCall (a .image) (record { connection = a .after .connection; answer = toldArrival s })) (sym (c .before .before .enum-told .given .1))
+
+returns-2 : tie.Need-returns-2
+returns-2 c =
+    let a = c .before .before .before .before .before .args in
+    gave (a .image) (a .after .connection) closed (c .before .saying2 .ensures) (c .done2 .ensures)
+    ∙ ap (λ (s : Arrival). afterCall (a .image) (record { connection = a .after .connection; answer = toldArrival s })) (sym (c .before .before .enum-told2 .given .1))
+
+returns-3 : tie.Need-returns-3
+returns-3 c =
+    let a = c .before .before .before .before .before .args in
+    c .refuse .ensures ∙ ap (λ (s : Arrival). afterCall (a .image) (record { connection = a .after .connection; answer = toldArrival s })) (sym (c .before .before .answer .given .1))
+
+pub arrived-spec : {M : Type 1} → statement M
+arrived-spec =
+    tie.close
+    (tie.spec
+    enum-told
+    saying-requires
+    done-requires
+    enum-told-2
+    saying-requires-2
+    done-requires-2
+    enum-known-answer
+    refuse-requires
+    returns
+    returns-2
+    returns-3)

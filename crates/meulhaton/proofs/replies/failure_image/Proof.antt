@@ -1,0 +1,49 @@
+-- `meulhaton::replies::failure_image` meets its contract. Assumes nothing.
+use mathlib.Core.Path.{sym, ap, _∙_}
+use borrow.Author.Needs.{needs}
+use Rattle.meulhaton.specs.Replies.{summaryImage}
+use Rattle.connection.specs.declared.answers.Failure.{Failure}
+use Rattle.connection.specs.declared.answers.Summary.the-variants as S
+use Rattle.meulhaton.proofs.replies.failure_image.Statement.{statement}
+use Rattle.meulhaton.proofs.replies.failure_image.Tie as tie
+
+enum-told : tie.Need-enum-told
+enum-told c = search needs
+
+summary-numbers-requires : tie.Need-summary-numbers-requires
+summary-numbers-requires c κs = search needs
+
+enum-told-2 : tie.Need-enum-told-2
+enum-told-2 c = search needs
+
+summary-numbers-requires-2 : tie.Need-summary-numbers-requires-2
+summary-numbers-requires-2 c κs = search needs
+
+enum-told-3 : tie.Need-enum-told-3
+enum-told-3 c = search needs
+
+summary-numbers-requires-3 : tie.Need-summary-numbers-requires-3
+summary-numbers-requires-3 c κs = search needs
+
+returns : tie.Need-returns
+returns c = c .summary-numbers .ensures ∙ ap (λ (f : Failure). summaryImage (S.Failure f)) (sym (c .before .enum-told .given .1))
+
+returns-2 : tie.Need-returns-2
+returns-2 c = c .summary-numbers2 .ensures ∙ ap (λ (f : Failure). summaryImage (S.Failure f)) (sym (c .before .enum-told2 .given .1))
+
+returns-3 : tie.Need-returns-3
+returns-3 c = c .summary-numbers3 .ensures ∙ ap (λ (f : Failure). summaryImage (S.Failure f)) (sym (c .before .enum-told3 .given .1))
+
+pub failure-image-spec : {M : Type 1} → statement M
+failure-image-spec =
+    tie.close
+    (tie.spec
+    enum-told
+    summary-numbers-requires
+    enum-told-2
+    summary-numbers-requires-2
+    enum-told-3
+    summary-numbers-requires-3
+    returns
+    returns-2
+    returns-3)

@@ -1,0 +1,78 @@
+-- `meulhaton::replies::summary_image` meets its contract. Assumes nothing.
+use mathlib.Core.Path.{sym, ap, _∙_}
+use borrow.Author.Needs.{needs}
+use Rattle.meulhaton.specs.Replies.{summaryImage, summaryNumbers}
+use Rattle.meulhaton.proofs.Bits.{as-number}
+use Rattle.meulhaton.proofs.replies.summary_image.Statement.{statement}
+use Rattle.meulhaton.proofs.replies.summary_image.Tie as tie
+
+enum-told : tie.Need-enum-told
+enum-told c = search needs
+
+summary-numbers-requires : tie.Need-summary-numbers-requires
+summary-numbers-requires c κs = search needs
+
+enum-told-2 : tie.Need-enum-told-2
+enum-told-2 c = search needs
+
+summary-numbers-requires-2 : tie.Need-summary-numbers-requires-2
+summary-numbers-requires-2 c κs = search needs
+
+enum-known-summary : tie.Need-enum-known-summary
+enum-known-summary c = search needs
+
+cast-summary-numbers : tie.Need-cast-summary-numbers
+cast-summary-numbers c = search needs
+
+summary-numbers-requires-3 : tie.Need-summary-numbers-requires-3
+summary-numbers-requires-3 c κs = search needs
+
+enum-known-summary-2 : tie.Need-enum-known-summary-2
+enum-known-summary-2 c = search needs
+
+summary-numbers-requires-4 : tie.Need-summary-numbers-requires-4
+summary-numbers-requires-4 c κs = search needs
+
+enum-known-summary-3 : tie.Need-enum-known-summary-3
+enum-known-summary-3 c = search needs
+
+failure-image-requires : tie.Need-failure-image-requires
+failure-image-requires c κs = search needs
+
+returns : tie.Need-returns
+returns c = c .summary-numbers .ensures ∙ ap summaryImage (sym (c .before .enum-told .given .1))
+
+returns-2 : tie.Need-returns-2
+returns-2 c = c .summary-numbers2 .ensures ∙ ap summaryImage (sym (c .before .enum-told2 .given .1))
+
+returns-3 : tie.Need-returns-3
+returns-3 c =
+    let h = c .before .before .summary .given in
+    c .summary-numbers3 .ensures ∙ ap (summaryNumbers 3) (as-number (h .0 .0)) ∙ ap summaryImage (sym (h .1))
+
+returns-4 : tie.Need-returns-4
+returns-4 c = c .summary-numbers4 .ensures ∙ ap summaryImage (sym (c .before .before .summary2 .given .1))
+
+returns-5 : tie.Need-returns-5
+returns-5 c = c .failure-image .ensures ∙ ap summaryImage (sym (c .before .before .summary3 .given .1))
+
+pub summary-image-spec : {M : Type 1} → statement M
+summary-image-spec =
+    tie.close
+    (tie.spec
+    enum-told
+    summary-numbers-requires
+    enum-told-2
+    summary-numbers-requires-2
+    enum-known-summary
+    cast-summary-numbers
+    summary-numbers-requires-3
+    enum-known-summary-2
+    summary-numbers-requires-4
+    enum-known-summary-3
+    failure-image-requires
+    returns
+    returns-2
+    returns-3
+    returns-4
+    returns-5)

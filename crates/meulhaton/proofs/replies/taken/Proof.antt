@@ -1,0 +1,107 @@
+-- `meulhaton::replies::taken` meets its contract. Assumes nothing.
+use mathlib.Core.Path.{sym, ap, _∙_}
+use borrow.Author.Needs.{needs}
+use Rattle.meulhaton.specs.Replies.{afterCall}
+use Rattle.meulhaton.proofs.Leaving.{gave}
+use Rattle.connection.specs.Table.{closed, idle, handed, answered}
+use Rattle.connection.specs.Answers.{toldTaken}
+use Rattle.connection.specs.declared.answers.Taken.{Taken}
+use Rattle.meulhaton.proofs.replies.taken.Statement.{statement}
+use Rattle.meulhaton.proofs.replies.taken.Tie as tie
+
+enum-told : tie.Need-enum-told
+enum-told c = search needs
+
+saying-requires : tie.Need-saying-requires
+saying-requires c κs = search needs
+
+done-requires : tie.Need-done-requires
+done-requires c κs = search needs
+
+enum-told-2 : tie.Need-enum-told-2
+enum-told-2 c = search needs
+
+saying-requires-2 : tie.Need-saying-requires-2
+saying-requires-2 c κs = search needs
+
+done-requires-2 : tie.Need-done-requires-2
+done-requires-2 c κs = search needs
+
+enum-known-answer : tie.Need-enum-known-answer
+enum-known-answer c = search needs
+
+handing-requires : tie.Need-handing-requires
+handing-requires c κs = search needs
+
+done-requires-3 : tie.Need-done-requires-3
+done-requires-3 c κs = search needs
+
+enum-known-answer-2 : tie.Need-enum-known-answer-2
+enum-known-answer-2 c = search needs
+
+answering-requires : tie.Need-answering-requires
+answering-requires c κs = search needs
+
+done-requires-4 : tie.Need-done-requires-4
+done-requires-4 c κs = search needs
+
+enum-known-answer-3 : tie.Need-enum-known-answer-3
+enum-known-answer-3 c = search needs
+
+refuse-requires : tie.Need-refuse-requires
+refuse-requires c κs = search needs
+
+returns : tie.Need-returns
+returns c =
+    let a = c .before .before .before .before .before .args in
+    gave (a .image) (a .after .connection) idle (c .before .saying .ensures) (c .done .ensures)
+    ∙ ap (λ (s : Taken). afterCall (a .image) (record { connection = a .after .connection; answer = toldTaken s })) (sym (c .before .before .enum-told .given .1))
+
+returns-2 : tie.Need-returns-2
+returns-2 c =
+    let a = c .before .before .before .before .before .args in
+    gave (a .image) (a .after .connection) closed (c .before .saying2 .ensures) (c .done2 .ensures)
+    ∙ ap (λ (s : Taken). afterCall (a .image) (record { connection = a .after .connection; answer = toldTaken s })) (sym (c .before .before .enum-told2 .given .1))
+
+returns-3 : tie.Need-returns-3
+returns-3 c =
+    let a = c .before .before .before .before .before .before .args in
+    let h = c .before .before .before .answer .given in
+    gave (a .image) (a .after .connection) (handed (h .0 .0) (h .0 .1 .0)) (c .before .handing .ensures) (c .done3 .ensures)
+    ∙ ap (λ (s : Taken). afterCall (a .image) (record { connection = a .after .connection; answer = toldTaken s })) (sym (c .before .before .before .answer .given .1))
+
+returns-4 : tie.Need-returns-4
+returns-4 c =
+    let a = c .before .before .before .before .before .before .args in
+    let h = c .before .before .before .answer2 .given in
+    gave (a .image) (a .after .connection) (answered (h .0 .0) (h .0 .1 .0)) (c .before .answering .ensures) (c .done4 .ensures)
+    ∙ ap (λ (s : Taken). afterCall (a .image) (record { connection = a .after .connection; answer = toldTaken s })) (sym (c .before .before .before .answer2 .given .1))
+
+returns-5 : tie.Need-returns-5
+returns-5 c =
+    let a = c .before .before .before .before .before .args in
+    c .refuse .ensures ∙ ap (λ (s : Taken). afterCall (a .image) (record { connection = a .after .connection; answer = toldTaken s })) (sym (c .before .before .answer3 .given .1))
+
+pub taken-spec : {M : Type 1} → statement M
+taken-spec =
+    tie.close
+    (tie.spec
+    enum-told
+    saying-requires
+    done-requires
+    enum-told-2
+    saying-requires-2
+    done-requires-2
+    enum-known-answer
+    handing-requires
+    done-requires-3
+    enum-known-answer-2
+    answering-requires
+    done-requires-4
+    enum-known-answer-3
+    refuse-requires
+    returns
+    returns-2
+    returns-3
+    returns-4
+    returns-5)

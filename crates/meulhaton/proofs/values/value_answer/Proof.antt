@@ -1,0 +1,45 @@
+-- `meulhaton::values::value_answer` meets its contract. Assumes nothing.
+use mathlib.Core.Path.{sym, ap, _∙_}
+use borrow.Author.Needs.{needs}
+use Rattle.packstream.specs.Reading.{told}
+use Rattle.meulhaton.specs.Values.{plain, valueAnswer}
+use Rattle.packstream.specs.declared.read.Reading.{Reading}
+use Rattle.meulhaton.proofs.values.value_answer.Statement.{statement}
+use Rattle.meulhaton.proofs.values.value_answer.Tie as tie
+
+enum-known-found : tie.Need-enum-known-found
+enum-known-found c = search needs
+
+head-image-requires : tie.Need-head-image-requires
+head-image-requires c κs = search needs
+
+enum-known-found-2 : tie.Need-enum-known-found-2
+enum-known-found-2 c = search needs
+
+number-requires : tie.Need-number-requires
+number-requires c κs = search needs
+
+plain-requires : tie.Need-plain-requires
+plain-requires c κs = search needs
+
+returns : tie.Need-returns
+returns c =
+    (λ j. record { refusal = 0; place = 0; end = c .before .before .found .given .0 .1 .0; head = c .head-image .ensures j })
+    ∙ ap (λ (d : Reading). valueAnswer (told d)) (sym (c .before .before .found .given .1))
+
+returns-2 : tie.Need-returns-2
+returns-2 c =
+    (λ j. record { refusal = c .before .number .ensures j; place = c .before .before .before .found2 .given .0 .1 .0; end = 0; head = c .plain .ensures j })
+    ∙ ap (λ (d : Reading). valueAnswer (told d)) (sym (c .before .before .before .found2 .given .1))
+
+pub value-answer-spec : {M : Type 1} → statement M
+value-answer-spec =
+    tie.close
+    (tie.spec
+    enum-known-found
+    head-image-requires
+    enum-known-found-2
+    number-requires
+    plain-requires
+    returns
+    returns-2)

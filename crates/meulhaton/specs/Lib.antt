@@ -1,0 +1,5 @@
+pub mod Wire
+pub mod Values
+pub mod Image
+pub mod Replies
+pub mod Calls
