@@ -323,7 +323,7 @@ impl<'s, A: Side, B: Side> Comparison<'s, A, B> {
         let mut left_over = self.random.between(1, 400);
         while left_over > 0 {
             left_over -= 1;
-            if self.random.once_in(400) {
+            if self.random.once_in(1_500) {
                 move_numbers(&mut self.random, &mut left, &mut right);
             }
             let call = client.next_call(&mut self.random, &left);
@@ -400,7 +400,7 @@ impl Client {
         if random.once_in(2) {
             return self.script.extend([Kind::Pull(all), Kind::Run]);
         }
-        let streams = random.between(1, 9);
+        let streams = random.pick(&[1, 2, 3, 8, 9, 10]);
         self.script.push(random.pick(&[Kind::Commit, Kind::Rollback]));
         for qid in 0..streams {
             let batch = if random.once_in(9) { batch } else { Batch { n: 5, qid: qid as i64 } };

@@ -21,10 +21,10 @@ fn compare<A: Side, B: Side>(left: &A, right: &B, seed: u64, share: u64) -> Resu
         ("frames", 60_000, Comparison::frame),
         ("chunks", 40_000, Comparison::chunks),
         ("values", 200_000, Comparison::value),
-        ("long values", 400, Comparison::long_value),
+        ("long values", 2_000, Comparison::long_value),
         ("requests", 200_000, Comparison::request),
         ("packing", 100_000, Comparison::packing),
-        ("conversations", 8_000, Comparison::conversation),
+        ("conversations", 20_000, Comparison::conversation),
     ];
     let mut total = Tally::default();
     for (index, (name, cases, part)) in parts.into_iter().enumerate() {
