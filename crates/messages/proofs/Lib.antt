@@ -8,3 +8,5 @@ pub mod Trees
 pub mod Lookups
 pub mod Fields
 pub mod Roots
+pub mod Summaries
+pub mod SummaryForms

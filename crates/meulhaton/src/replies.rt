@@ -69,7 +69,7 @@ fn failure_image(failure: Failure) -> SummaryImage
     }
 }
 
-fn summary_image(summary: Summary) -> SummaryImage
+pub fn summary_image(summary: Summary) -> SummaryImage
     ensures { λ r. ⌜ r ≡ summaryImage summary ⌝ }
 {
     match summary {

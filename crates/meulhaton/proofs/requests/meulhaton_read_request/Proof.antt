@@ -1,0 +1,57 @@
+-- `meulhaton::requests::meulhaton_read_request` meets its contract. Assumes nothing.
+use mathlib.Core.Path.{sym, ap, _∙_}
+use Prim.Native.Nat.{ℕ}
+use borrow.Author.Needs.{needs}
+use Rattle.meulhaton.specs.Requests.{requestAnswer}
+use Rattle.messages.specs.Requests.{requestOf}
+use Rattle.messages.specs.declared.request.Request.{Request}
+use Rattle.refusal.specs.Answer.{Answer}
+use Rattle.packstream.specs.Decode.{decode}
+use Rattle.meulhaton.proofs.Versions.{known, unknown}
+use Rattle.meulhaton.proofs.requests.meulhaton_read_request.Statement.{statement}
+use Rattle.meulhaton.proofs.requests.meulhaton_read_request.Tie as tie
+
+version-of-requires : tie.Need-version-of-requires
+version-of-requires c κs = search needs
+
+enum-known-proposal : tie.Need-enum-known-proposal
+enum-known-proposal c = search needs
+
+read-request-requires : tie.Need-read-request-requires
+read-request-requires c κs = search needs
+
+request-answer-requires : tie.Need-request-answer-requires
+request-answer-requires c κs = search needs
+
+enum-told : tie.Need-enum-told
+enum-told c = search needs
+
+refuse-requires : tie.Need-refuse-requires
+refuse-requires c κs = search needs
+
+returns : tie.Need-returns
+returns c =
+    let a = c .before .before .before .before .before .before .before .args in
+    let p = c .before .before .before .before .before .version-of in
+    let f : ℕ → Answer Request = λ v. requestOf v (decode (a .message .now)) in
+    c .request-answer .ensures ∙ ap requestAnswer (c .before .read-request .ensures ∙ sym (known (a .minor) f (p .result) (p .ensures) _ (c .before .before .before .proposal .given .1)))
+
+returns-2 : tie.Need-returns-2
+returns-2 c =
+    let a = c .before .before .before .before .before .args in
+    let p = c .before .before .before .version-of in
+    let f : ℕ → Answer Request = λ v. requestOf v (decode (a .message .now)) in
+    c .refuse .ensures ∙ ap requestAnswer (sym (unknown (a .minor) f (p .result) (p .ensures) (c .before .enum-told .given .1)))
+
+pub meulhaton-read-request-spec : {M : Type 1} → statement M
+meulhaton-read-request-spec =
+    tie.close
+    (tie.spec
+    version-of-requires
+    enum-known-proposal
+    read-request-requires
+    request-answer-requires
+    enum-told
+    refuse-requires
+    returns
+    returns-2)

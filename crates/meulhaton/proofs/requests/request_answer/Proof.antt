@@ -1,0 +1,49 @@
+-- `meulhaton::requests::request_answer` meets its contract. Assumes nothing.
+use mathlib.Core.Path.{sym, ap, _∙_}
+use borrow.Author.Needs.{needs}
+use Rattle.meulhaton.specs.Requests.{requestAnswer}
+use Rattle.messages.specs.Requests.{told}
+use Rattle.messages.specs.declared.request.Reading.{Reading}
+use Rattle.meulhaton.specs.Image.{requestImage}
+use Rattle.meulhaton.proofs.requests.request_answer.Statement.{statement}
+use Rattle.meulhaton.proofs.requests.request_answer.Tie as tie
+
+enum-known-reading : tie.Need-enum-known-reading
+enum-known-reading c = search needs
+
+arrival-of-requires : tie.Need-arrival-of-requires
+arrival-of-requires c κs = search needs
+
+request-image-requires : tie.Need-request-image-requires
+request-image-requires c κs = search needs
+
+fields-of-requires : tie.Need-fields-of-requires
+fields-of-requires c κs = search needs
+
+enum-known-reading-2 : tie.Need-enum-known-reading-2
+enum-known-reading-2 c = search needs
+
+refuse-requires : tie.Need-refuse-requires
+refuse-requires c κs = search needs
+
+returns : tie.Need-returns
+returns c =
+    let e = c .before .request-image .ensures ∙ ap requestImage (c .before .before .arrival-of .ensures) in
+    (λ j. record { refusal = 0; place = 0; request = e j; fields = c .fields-of .ensures j })
+    ∙ ap (λ (d : Reading). requestAnswer (told d)) (sym (c .before .before .before .before .reading .given .1))
+
+returns-2 : tie.Need-returns-2
+returns-2 c = c .refuse .ensures ∙ ap (λ (d : Reading). requestAnswer (told d)) (sym (c .before .before .reading2 .given .1))
+
+pub request-answer-spec : {M : Type 1} → statement M
+request-answer-spec =
+    tie.close
+    (tie.spec
+    enum-known-reading
+    arrival-of-requires
+    request-image-requires
+    fields-of-requires
+    enum-known-reading-2
+    refuse-requires
+    returns
+    returns-2)

@@ -1,0 +1,110 @@
+-- A request read, as numbers: document 01, "Requests". Assumes nothing.
+use Prim.Native.Nat.{ℕ}
+use lib.IntN.{pos}
+use Rattle.refusal.specs.Answer.{Answer, result, refused}
+use Rattle.messages.specs.declared.request.Span.{Span}
+use Rattle.messages.specs.declared.request.Text.{Text}
+use Rattle.messages.specs.declared.request.Text.the-variants as T
+use Rattle.messages.specs.declared.request.Place.{Place}
+use Rattle.messages.specs.declared.request.Place.the-variants as P
+use Rattle.messages.specs.declared.request.Number.{Number}
+use Rattle.messages.specs.declared.request.Number.the-variants as N
+use Rattle.messages.specs.declared.request.Mode.{Mode}
+use Rattle.messages.specs.declared.request.Mode.the-variants as M
+use Rattle.messages.specs.declared.request.Transaction.{Transaction}
+use Rattle.messages.specs.declared.request.Request.{Request}
+use Rattle.messages.specs.declared.request.Request.the-variants as R
+use Rattle.messages.specs.Arrivals.{arrivalOf}
+use Rattle.meulhaton.specs.declared.requests.TextImage.{TextImage}
+use Rattle.meulhaton.specs.declared.requests.PlaceImage.{PlaceImage}
+use Rattle.meulhaton.specs.declared.requests.NumberImage.{NumberImage}
+use Rattle.meulhaton.specs.declared.requests.HelloImage.{HelloImage}
+use Rattle.meulhaton.specs.declared.requests.RunImage.{RunImage}
+use Rattle.meulhaton.specs.declared.requests.TransactionImage.{TransactionImage}
+use Rattle.meulhaton.specs.declared.requests.FieldsImage.{FieldsImage}
+use Rattle.meulhaton.specs.declared.requests.RequestRead.{RequestRead}
+use Rattle.meulhaton.specs.Image.{bare, requestImage}
+
+-- ---- what may be absent
+-- where a String's content lies
+abbrev pub spanImage : Span → TextImage
+spanImage s = record { present = 1; start = s .start; size = s .size }
+
+abbrev pub textImage : Text → TextImage
+textImage T.Absent = record { present = 0; start = 0; size = 0 }
+textImage (T.At s) = spanImage s
+
+-- the offset of a marker
+abbrev pub placed : ℕ → PlaceImage
+placed offset = record { present = 1; offset = offset }
+
+abbrev pub placeImage : Place → PlaceImage
+placeImage P.Absent = record { present = 0; offset = 0 }
+placeImage (P.At offset) = placed offset
+
+abbrev pub numberImage : Number → NumberImage
+numberImage N.Absent = record { present = 0; value = pos 0 }
+numberImage (N.Is z) = record { present = 1; value = z }
+
+-- "r" is 1, "w" is 2
+abbrev pub modeNumber : Mode → ℕ
+modeNumber M.Absent = 0
+modeNumber M.Read = 1
+modeNumber M.Write = 2
+
+-- ---- the fields of each request
+abbrev pub helloImage : Span → Text → Text → Text → Place → HelloImage
+helloImage agent scheme principal credentials routing = record {
+  «user_agent» = spanImage agent;
+  scheme = textImage scheme;
+  principal = textImage principal;
+  credentials = textImage credentials;
+  routing = placeImage routing;
+}
+
+abbrev pub noHello : HelloImage
+noHello = record {
+  «user_agent» = textImage T.Absent;
+  scheme = textImage T.Absent;
+  principal = textImage T.Absent;
+  credentials = textImage T.Absent;
+  routing = placeImage P.Absent;
+}
+
+abbrev pub runImage : Span → ℕ → RunImage
+runImage query parameters = record { query = spanImage query; parameters = placed parameters }
+
+abbrev pub noRun : RunImage
+noRun = record { query = textImage T.Absent; parameters = placeImage P.Absent }
+
+abbrev pub transactionImage : Transaction → TransactionImage
+transactionImage t = record {
+  bookmarks = placeImage (t .bookmarks);
+  «tx_timeout» = numberImage (t .«tx_timeout»);
+  «tx_metadata» = placeImage (t .«tx_metadata»);
+  mode = modeNumber (t .mode);
+  db = textImage (t .db);
+}
+
+abbrev pub noTransaction : TransactionImage
+noTransaction = transactionImage (record { bookmarks = P.Absent; «tx_timeout» = N.Absent; «tx_metadata» = P.Absent; mode = M.Absent; db = T.Absent })
+
+abbrev pub noFields : FieldsImage
+noFields = record { hello = noHello; run = noRun; transaction = noTransaction }
+
+-- those of other requests are absent
+abbrev pub fieldsOf : Request → FieldsImage
+fieldsOf (R.Hello agent scheme principal credentials routing) = record { hello = helloImage agent scheme principal credentials routing; run = noRun; transaction = noTransaction }
+fieldsOf R.Goodbye = noFields
+fieldsOf R.Reset = noFields
+fieldsOf (R.Run query parameters t) = record { hello = noHello; run = runImage query parameters; transaction = transactionImage t }
+fieldsOf (R.Begin t) = record { hello = noHello; run = noRun; transaction = transactionImage t }
+fieldsOf R.Commit = noFields
+fieldsOf R.Rollback = noFields
+fieldsOf (R.Discard batch) = noFields
+fieldsOf (R.Pull batch) = noFields
+
+-- ---- the request as the connection is told of it, and its fields
+abbrev pub requestAnswer : Answer Request → RequestRead
+requestAnswer (result r) = record { refusal = 0; place = 0; request = requestImage (arrivalOf r); fields = fieldsOf r }
+requestAnswer (refused number place) = record { refusal = number; place = place; request = bare 0; fields = noFields }
