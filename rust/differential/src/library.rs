@@ -73,9 +73,7 @@ impl Side for Library {
                     Report::SuccessWithMore => proved::Outcome::More,
                     Report::Failure => proved::Outcome::Failure,
                 })
-                .map(|answered| {
-                    Reply::Reported(Answer { number: answered.number, summary: summary(answered.summary) })
-                }),
+                .map(|answered| Reply::Reported(answer(answered))),
             Call::Close => connection.close().map(|()| Reply::Closed),
         };
         *image = from_image(connection.image());
@@ -203,23 +201,25 @@ fn to_summary(summary: Summary) -> proved::Summary {
     }
 }
 
+fn answer(answered: proved::Answered) -> Answer {
+    Answer { number: answered.number, summary: summary(answered.summary) }
+}
+
 fn turn(taken: proved::Taken) -> Turn {
     match taken {
         proved::Taken::Idle => Turn::Idle,
         proved::Taken::Closed => Turn::Closed,
         proved::Taken::Handed { request, number } => Turn::Handed { kind: kind(request), number },
-        proved::Taken::Answered { summary: answer, number } => {
-            Turn::Answered(Answer { number, summary: summary(answer) })
-        }
+        proved::Taken::Answered(answered) => Turn::Answered(answer(answered)),
     }
 }
 
-fn from_image(image: &proved::Image) -> Image {
+fn from_image(image: &proved::raw::Image) -> Image {
     Image {
         state: image.state,
         in_flight: image.in_flight,
         waiting: image.waiting,
-        open: image.open,
+        open: image.opened,
         next: image.next,
         accepted: image.accepted,
         sent: image.sent,
@@ -228,17 +228,17 @@ fn from_image(image: &proved::Image) -> Image {
     }
 }
 
-fn to_image(image: &Image) -> proved::Image {
-    proved::Image {
+fn to_image(image: &Image) -> proved::raw::Image {
+    proved::raw::Image {
         state: image.state,
         in_flight: image.in_flight,
         waiting: image.waiting,
-        open: image.open,
+        opened: image.open,
         next: image.next,
         accepted: image.accepted,
         sent: image.sent,
         streams: image.streams,
-        requests: image.requests.map(|request| proved::RequestImage {
+        requests: image.requests.map(|request| proved::raw::RequestImage {
             kind: request.kind,
             n: request.n,
             qid: request.qid,

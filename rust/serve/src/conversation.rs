@@ -31,6 +31,8 @@ pub fn serve(input: &mut impl Read, output: &mut impl Write) -> io::Result<()> {
         let next = conversation.hear(&mut gathered.bytes)?;
         conversation.output.flush()?;
         if next == Next::Close || !gathered.more()? {
+            // Refused with 18 where it is closed already.
+            let _ = conversation.connection.close();
             return Ok(());
         }
     }
@@ -141,7 +143,7 @@ impl<'o, W: Write> Conversation<'o, W> {
         loop {
             let summary = match self.connection.take() {
                 Ok(Taken::Idle) => return Ok(Next::ReadMore),
-                Ok(Taken::Answered { summary, .. }) => summary,
+                Ok(Taken::Answered(answered)) => answered.summary,
                 Ok(Taken::Handed { request, .. }) => match self.connection.report(engine(request)) {
                     Ok(answered) => answered.summary,
                     Err(_) => return Ok(Next::Close),
