@@ -1,0 +1,182 @@
+//! The library's own functions and structs, as the C header has them. The modules beside this one wrap them.
+#![allow(missing_docs)]
+
+#[repr(C)]
+#[derive(Clone, Copy, Debug, PartialEq, Eq)]
+pub struct Agreement {
+    pub refusal: u8,
+    pub minor: u8,
+    pub place: u64,
+}
+
+#[repr(C)]
+#[derive(Clone, Copy, Debug, PartialEq, Eq)]
+pub struct FrameRead {
+    pub refusal: u8,
+    pub kind: u8,
+    pub place: u64,
+    pub length: u64,
+    pub consumed: u64,
+}
+
+#[repr(C)]
+#[derive(Clone, Copy, Debug, PartialEq, Eq)]
+pub struct Output {
+    pub refusal: u8,
+    pub place: u64,
+    pub end: u64,
+}
+
+#[repr(C)]
+#[derive(Clone, Copy, Debug, PartialEq, Eq)]
+pub struct HeadImage {
+    pub kind: u8,
+    pub boolean: u8,
+    pub tag: u8,
+    pub integer: i64,
+    pub bits: u64,
+    pub start: u64,
+    pub size: u64,
+}
+
+#[repr(C)]
+#[derive(Clone, Copy, Debug, PartialEq, Eq)]
+pub struct ValueRead {
+    pub refusal: u8,
+    pub place: u64,
+    pub end: u64,
+    pub head: HeadImage,
+}
+
+/// A request: its tag, and n and qid of DISCARD and PULL.
+#[repr(C)]
+#[derive(Clone, Copy, Debug, Default, PartialEq, Eq)]
+pub struct RequestImage {
+    pub kind: u8,
+    pub n: i64,
+    pub qid: i64,
+}
+
+#[repr(C)]
+#[derive(Clone, Copy, Debug, PartialEq, Eq)]
+pub struct TextImage {
+    pub present: u8,
+    pub start: u64,
+    pub size: u64,
+}
+
+#[repr(C)]
+#[derive(Clone, Copy, Debug, PartialEq, Eq)]
+pub struct PlaceImage {
+    pub present: u8,
+    pub offset: u64,
+}
+
+#[repr(C)]
+#[derive(Clone, Copy, Debug, PartialEq, Eq)]
+pub struct NumberImage {
+    pub present: u8,
+    pub value: i64,
+}
+
+#[repr(C)]
+#[derive(Clone, Copy, Debug, PartialEq, Eq)]
+pub struct HelloImage {
+    pub user_agent: TextImage,
+    pub scheme: TextImage,
+    pub principal: TextImage,
+    pub credentials: TextImage,
+    pub routing: PlaceImage,
+}
+
+#[repr(C)]
+#[derive(Clone, Copy, Debug, PartialEq, Eq)]
+pub struct RunImage {
+    pub query: TextImage,
+    pub parameters: PlaceImage,
+}
+
+#[repr(C)]
+#[derive(Clone, Copy, Debug, PartialEq, Eq)]
+pub struct TransactionImage {
+    pub bookmarks: PlaceImage,
+    pub tx_timeout: NumberImage,
+    pub tx_metadata: PlaceImage,
+    pub mode: u8,
+    pub db: TextImage,
+}
+
+#[repr(C)]
+#[derive(Clone, Copy, Debug, PartialEq, Eq)]
+pub struct FieldsImage {
+    pub hello: HelloImage,
+    pub run: RunImage,
+    pub transaction: TransactionImage,
+}
+
+#[repr(C)]
+#[derive(Clone, Copy, Debug, PartialEq, Eq)]
+pub struct RequestRead {
+    pub refusal: u8,
+    pub place: u64,
+    pub request: RequestImage,
+    pub fields: FieldsImage,
+}
+
+/// A connection record as numbers. Any numbers may stand in it: each call checks it and refuses with 24 one that is no good record.
+#[repr(C)]
+#[derive(Clone, Debug, PartialEq, Eq)]
+pub struct Image {
+    pub state: u8,
+    pub in_flight: u8,
+    pub waiting: u64,
+    pub opened: u64,
+    pub next: u64,
+    pub accepted: u64,
+    pub sent: u64,
+    pub streams: [u64; 8],
+    pub requests: [RequestImage; 32],
+}
+
+#[repr(C)]
+#[derive(Clone, Copy, Debug, PartialEq, Eq)]
+pub struct OutcomeImage {
+    pub number: u8,
+}
+
+#[repr(C)]
+#[derive(Clone, Copy, Debug, PartialEq, Eq)]
+pub struct SummaryImage {
+    pub kind: u8,
+    pub value: u32,
+}
+
+#[repr(C)]
+#[derive(Clone, Copy, Debug, PartialEq, Eq)]
+pub struct Reply {
+    pub refusal: u8,
+    pub said: u8,
+    pub summary: SummaryImage,
+    pub place: u64,
+    pub number: u64,
+    pub request: RequestImage,
+}
+
+// A slice passes as a pointer and then a length.
+extern "C" {
+    pub fn meulhaton_negotiate(input: *const u8, input_length: usize) -> Agreement;
+    pub fn meulhaton_read_frame(minor: u8, input: *const u8, input_length: usize, buffer: *mut u8, buffer_length: usize) -> FrameRead;
+    pub fn meulhaton_write_chunks(message: *const u8, message_length: usize, chunk_size: usize, out: *mut u8, out_length: usize) -> Output;
+    pub fn meulhaton_read_message(message: *const u8, message_length: usize) -> ValueRead;
+    pub fn meulhaton_read_value(message: *const u8, message_length: usize, at: usize, depth: usize) -> ValueRead;
+    pub fn meulhaton_pack_boolean(value: bool, out: *mut u8, out_length: usize, at: usize) -> Output;
+    pub fn meulhaton_pack_integer(number: i64, out: *mut u8, out_length: usize, at: usize) -> Output;
+    pub fn meulhaton_pack_string(text: *const u8, text_length: usize, out: *mut u8, out_length: usize, at: usize) -> Output;
+    pub fn meulhaton_read_request(minor: u8, message: *const u8, message_length: usize) -> RequestRead;
+    pub fn meulhaton_pack_summary(summary: SummaryImage, out: *mut u8, out_length: usize, at: usize) -> Output;
+    pub fn meulhaton_fresh() -> Image;
+    pub fn meulhaton_arrive(connection: *mut Image, request: RequestImage) -> Reply;
+    pub fn meulhaton_take(connection: *mut Image) -> Reply;
+    pub fn meulhaton_report(connection: *mut Image, outcome: OutcomeImage) -> Reply;
+    pub fn meulhaton_close(connection: *mut Image) -> Reply;
+}

@@ -1,0 +1,221 @@
+//! Each function of the wrapper on cases of document 01. What is refused has to leave the buffer and the record as they were.
+use meulhaton::raw::{Image, RequestImage};
+use meulhaton::*;
+
+fn refused(number: u8, place: usize) -> Refusal {
+    Refusal { number, place }
+}
+
+#[test]
+fn handshake() {
+    let mut hello = vec![0x60, 0x60, 0xB0, 0x17, 0, 0, 3, 4, 0, 0, 1, 4, 0, 0, 0, 4, 0, 0, 0, 0];
+    assert_eq!(negotiate(&hello), Ok(Version::V4_1));
+    assert_eq!(Version::V4_1.to_bytes(), [0, 0, 1, 4]);
+    assert_eq!(negotiate(&[]), Err(refused(1, 0)));
+    assert_eq!(negotiate(&hello[..19]), Err(refused(1, 0)));
+    assert_eq!(negotiate(&[0x60, 0x61]), Err(refused(2, 0)));
+    hello[10] = 9;
+    hello[15] = 5;
+    assert_eq!(negotiate(&hello), Err(refused(3, 0)));
+}
+
+#[test]
+fn frames() {
+    let mut buffer = [0xEE; 4];
+    assert_eq!(read_frame(Version::V4_0, &[], &mut buffer), Err(refused(4, 0)));
+    assert_eq!(read_frame(Version::V4_0, &[0, 0], &mut buffer), Err(refused(5, 0)));
+    assert_eq!(read_frame(Version::V4_1, &[0, 0], &mut buffer), Ok(Frame::KeepAlive { consumed: 2 }));
+    assert_eq!(read_frame(Version::V4_2, &[0x40, 1], &mut buffer), Err(refused(6, 0)));
+    assert_eq!(read_frame(Version::V4_2, &[0, 5], &mut buffer), Err(refused(21, 0)));
+    assert_eq!(buffer, [0xEE; 4]);
+    assert_eq!(read_frame(Version::V4_1, &[0, 1, 0xC0, 0, 0, 7], &mut buffer), Ok(Frame::Message { length: 1, consumed: 5 }));
+    assert_eq!(buffer, [0xC0, 0xEE, 0xEE, 0xEE]);
+    assert_eq!(unsafe { raw::meulhaton_read_frame(3, [0u8, 0].as_ptr(), 2, buffer.as_mut_ptr(), 4) }.refusal, 24);
+}
+
+#[test]
+fn chunks() {
+    let mut out = [0xEE; 10];
+    assert_eq!(write_chunks(&[1, 2, 3], 2, &mut out), Ok(9));
+    assert_eq!(out, [0, 2, 1, 2, 0, 1, 3, 0, 0, 0xEE]);
+    let before = out;
+    assert_eq!(write_chunks(&[], 2, &mut out), Err(refused(22, 0)));
+    assert_eq!(write_chunks(&[1], 0, &mut out), Err(refused(22, 0)));
+    assert_eq!(write_chunks(&[1], 65_536, &mut out), Err(refused(22, 0)));
+    assert_eq!(write_chunks(&[1; 16_385], 2, &mut out), Err(refused(6, 0)));
+    assert_eq!(write_chunks(&[1; 7], 7, &mut out), Err(refused(21, 0)));
+    assert_eq!(out, before);
+}
+
+#[test]
+fn values() {
+    let head = |message: &[u8]| read_message(message).map(|found| found.head);
+    assert_eq!(head(&[0xC0]), Ok(Head::Null));
+    assert_eq!(head(&[0xC2]), Ok(Head::Boolean(false)));
+    assert_eq!(head(&[0xC3]), Ok(Head::Boolean(true)));
+    assert_eq!(head(&[0x7F]), Ok(Head::Integer(127)));
+    assert_eq!(head(&[0xF0]), Ok(Head::Integer(-16)));
+    assert_eq!(head(&[0xC8, 0x80]), Ok(Head::Integer(-128)));
+    assert_eq!(head(&[0xCB, 0x80, 0, 0, 0, 0, 0, 0, 0]), Ok(Head::Integer(i64::MIN)));
+    assert_eq!(head(&[0xC1, 0x3F, 0xF0, 0, 0, 0, 0, 0, 0]), Ok(Head::Float(1f64.to_bits())));
+    assert_eq!(head(&[0xCC, 1, 9]), Ok(Head::Bytes { start: 2, size: 1 }));
+    assert_eq!(head(&[0x82, 0xC3, 0xA9]), Ok(Head::String { start: 1, size: 2 }));
+    assert_eq!(head(&[0x92, 1, 2]), Ok(Head::List { first: 1, count: 2 }));
+    assert_eq!(head(&[0xA1, 0x81, 0x61, 1]), Ok(Head::Dictionary { first: 1, count: 1 }));
+    assert_eq!(head(&[0xB1, 0x70, 0xA0]), Ok(Head::Structure { tag: 0x70, first: 2, count: 1 }));
+    assert_eq!(read_message(&[]), Err(refused(7, 0)));
+    assert_eq!(read_message(&[0xEF]), Err(refused(8, 0)));
+    assert_eq!(read_message(&[0xC0, 0xC0]), Err(refused(13, 1)));
+    assert_eq!(read_message(&[0x82, 0xC3]), Err(refused(7, 0)));
+    assert_eq!(read_message(&[0x81, 0x80]), Err(refused(10, 0)));
+    assert_eq!(read_message(&[0xA2, 0x81, 0x61, 1, 0xD0, 1, 0x61, 2]), Err(refused(12, 4)));
+    assert_eq!(read_message(&[0x91; 17]), Err(refused(9, 16)));
+    assert_eq!(read_message(&[0; 16_385]), Err(refused(6, 0)));
+    assert_eq!(read_value(&[0x92, 1, 2], 2, 0), Ok(Found { head: Head::Integer(2), end: 3 }));
+    assert_eq!(read_value(&[0x92, 1, 2], 0, 0), Err(refused(9, 0)));
+}
+
+#[test]
+fn packing() {
+    let mut out = [0xEE; 8];
+    assert_eq!(pack_integer(128, &mut out, 1), Ok(4));
+    assert_eq!(out, [0xEE, 0xC9, 0, 0x80, 0xEE, 0xEE, 0xEE, 0xEE]);
+    assert_eq!(pack_integer(-17, &mut out, 4), Ok(6));
+    assert_eq!(pack_boolean(true, &mut out, 6), Ok(7));
+    assert_eq!(out, [0xEE, 0xC9, 0, 0x80, 0xC8, 0xEF, 0xC3, 0xEE]);
+    assert_eq!(pack_string("é".as_bytes(), &mut out, 0), Ok(3));
+    let before = out;
+    assert_eq!(pack_integer(128, &mut out, 6), Err(refused(21, 0)));
+    assert_eq!(pack_boolean(true, &mut out, usize::MAX), Err(refused(21, 0)));
+    assert_eq!(pack_string(&[0x80], &mut out, 0), Err(refused(10, 0)));
+    assert_eq!(pack_string(&[0; 16_385], &mut out, 0), Err(refused(6, 0)));
+    assert_eq!(out, before);
+    assert_eq!(pack_summary(Summary::Stream(5), &mut out, 0), Ok(8));
+    assert_eq!(out, [0xB1, 0x70, 0xA1, 0x83, 0x71, 0x69, 0x64, 0x05]);
+    assert_eq!(pack_summary(Summary::HasMore(false), &mut out, 0), Err(refused(21, 0)));
+    assert_eq!(out, [0xB1, 0x70, 0xA1, 0x83, 0x71, 0x69, 0x64, 0x05]);
+    let mut long = [0; 60];
+    assert_eq!(pack_summary(Summary::Failure(Failure::StreamUnknown), &mut long, 0), Ok(60));
+    for (kind, value) in [(0, 0), (8, 0), (1, 1), (3, 2), (7, 1)] {
+        let answer = unsafe { raw::meulhaton_pack_summary(raw::SummaryImage { kind, value }, out.as_mut_ptr(), 8, 0) };
+        assert_eq!(answer, raw::Output { refusal: 24, place: 0, end: 0 });
+    }
+}
+
+#[test]
+fn requests() {
+    let read = |message: &[u8]| read_request(Version::V4_1, message);
+    let hello = b"\xB1\x01\xA2\x8Auser_agent\x83P/1\x87routing\xA0";
+    let fields = Fields::Hello { user_agent: Span { start: 15, size: 3 }, scheme: None, principal: None, credentials: None, routing: Some(26) };
+    assert_eq!(read(hello), Ok(RequestRead { request: Request::Hello, fields }));
+    let run = b"\xB3\x10\x81R\xA0\xA2\x84mode\x81w\x8Atx_timeout\x05";
+    let transaction = Transaction { bookmarks: None, tx_timeout: Some(5), tx_metadata: None, mode: Some(Mode::Write), db: None };
+    let fields = Fields::Run { query: Span { start: 3, size: 1 }, parameters: 4, transaction };
+    assert_eq!(read(run), Ok(RequestRead { request: Request::Run, fields }));
+    let absent = Transaction { bookmarks: None, tx_timeout: None, tx_metadata: None, mode: None, db: None };
+    assert_eq!(read(b"\xB1\x11\xA0"), Ok(RequestRead { request: Request::Begin, fields: Fields::Begin(absent) }));
+    let pull = Request::Pull { n: -1, qid: -1 };
+    assert_eq!(read(b"\xB1\x3F\xA1\x81n\xFF"), Ok(RequestRead { request: pull, fields: Fields::None }));
+    assert_eq!(read(b"\xB0\x02"), Ok(RequestRead { request: Request::Goodbye, fields: Fields::None }));
+    assert_eq!(read(b"\xB1\x3F\xA1\x81n\x00"), Err(refused(16, 5)));
+    assert_eq!(read(b"\xB1\x3F\xA0"), Err(refused(16, 2)));
+    assert_eq!(read(b"\xB1\x02\xA0"), Err(refused(15, 0)));
+    assert_eq!(read(b"\xB0\x55"), Err(refused(14, 0)));
+    assert_eq!(read(b"\xB0"), Err(refused(7, 0)));
+    assert_eq!(unsafe { raw::meulhaton_read_request(9, b"\xB0\x02".as_ptr(), 2) }.refusal, 24);
+}
+
+fn ready() -> Connection {
+    let mut c = Connection::fresh();
+    assert_eq!(c.arrive(Request::Hello), Ok(Arrival::Queued));
+    assert_eq!(c.take(), Ok(Taken::Handed { request: Request::Hello, number: 1 }));
+    assert_eq!(c.report(Outcome::Success), Ok(Answered { summary: Summary::Success, number: 1 }));
+    assert_eq!(c.state(), Some(State::Ready));
+    c
+}
+
+#[test]
+fn transaction() {
+    let mut c = ready();
+    let pull = Request::Pull { n: 10, qid: 0 };
+    for request in [Request::Begin, Request::Run, pull, Request::Commit, Request::Goodbye] {
+        assert_eq!(c.arrive(request), Ok(Arrival::Queued));
+    }
+    assert_eq!(c.waiting(), 5);
+    for (request, number, outcome, summary) in [
+        (Request::Begin, 2, Outcome::Success, Summary::Success),
+        (Request::Run, 3, Outcome::Success, Summary::Stream(0)),
+        (pull, 4, Outcome::Success, Summary::HasMore(false)),
+        (Request::Commit, 5, Outcome::Failure, Summary::Failure(Failure::EngineFailed)),
+    ] {
+        assert_eq!(c.take(), Ok(Taken::Handed { request, number }));
+        assert_eq!(c.take(), Ok(Taken::Idle));
+        assert_eq!(c.report(outcome), Ok(Answered { summary, number }));
+    }
+    assert_eq!(c.state(), Some(State::Failed));
+    assert_eq!(c.take(), Ok(Taken::Closed));
+    assert_eq!(c.state(), Some(State::Defunct));
+    assert_eq!(c.close(), Err(refused(18, 0)));
+}
+
+#[test]
+fn refused_calls_leave_the_record() {
+    let mut c = ready();
+    let before = c.clone();
+    assert_eq!(c.arrive(Request::Pull { n: 0, qid: -1 }), Err(refused(16, 0)));
+    assert_eq!(c.report(Outcome::Success), Err(refused(19, 0)));
+    assert_eq!(c, before);
+    for _ in 0..32 {
+        assert_eq!(c.arrive(Request::Run), Ok(Arrival::Queued));
+    }
+    let full = c.clone();
+    assert_eq!(c.arrive(Request::Run), Err(refused(17, 0)));
+    assert_eq!(c, full);
+    let answer = unsafe { raw::meulhaton_arrive(&mut full.image().clone(), RequestImage { kind: 0, n: 0, qid: 0 }) };
+    assert_eq!((answer.refusal, answer.said), (24, 0));
+    assert_eq!(c.close(), Ok(()));
+    assert_eq!(c.waiting(), 0);
+}
+
+#[test]
+fn bad_images_are_refused() {
+    type Damage = fn(&mut Image);
+    let damages: [Damage; 8] = [
+        |i| i.state = 8,
+        |i| i.state = 4,
+        |i| i.in_flight = 2,
+        |i| i.in_flight = 1,
+        |i| i.waiting = 33,
+        |i| i.requests[0].kind = 0x14,
+        |i| i.opened = 9,
+        |i| i.accepted = 7,
+    ];
+    let mut good = ready();
+    assert_eq!(good.arrive(Request::Commit), Ok(Arrival::Queued));
+    for damage in damages {
+        let mut image = good.image().clone();
+        damage(&mut image);
+        let mut c = Connection::from_image(image.clone());
+        assert_eq!(c.take(), Err(refused(24, 0)));
+        assert_eq!(c.arrive(Request::Run), Err(refused(24, 0)));
+        assert_eq!(c.report(Outcome::Success), Err(refused(24, 0)));
+        assert_eq!(c.close(), Err(refused(24, 0)));
+        assert_eq!(c.image(), &image);
+    }
+}
+
+// What lies past the counts never matters, and a refused call leaves it too.
+#[test]
+fn unused_places_never_matter() {
+    let mut image = ready().image().clone();
+    image.streams = [77; 8];
+    image.requests = [RequestImage { kind: 0xAA, n: -9, qid: 1 << 40 }; 32];
+    let mut c = Connection::from_image(image.clone());
+    assert_eq!(c.report(Outcome::Success), Err(refused(19, 0)));
+    assert_eq!(c.image(), &image);
+    assert_eq!(c.arrive(Request::Run), Ok(Arrival::Queued));
+    assert_eq!(c.take(), Ok(Taken::Handed { request: Request::Run, number: 2 }));
+    assert_eq!(c.report(Outcome::More), Err(refused(19, 0)));
+    assert_eq!(c.report(Outcome::Success), Ok(Answered { summary: Summary::Success, number: 2 }));
+    assert_eq!(c.state(), Some(State::Streaming));
+}
