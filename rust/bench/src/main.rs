@@ -11,7 +11,7 @@ use std::hint::black_box;
 
 fn main() {
     println!("{}\n", machine());
-    println!("{:58} {:>11} {:>11} {:>7}", "", "library", "other", "ratio");
+    println!("{:66} {:>11} {:>11} {:>7}", "", "library", "other", "ratio");
     values();
     text();
     frames();
@@ -27,7 +27,7 @@ fn machine() -> String {
 }
 
 fn row(what: &str, other: &str, Comparison { first, second, ratio }: Comparison) {
-    println!("{:58} {:>11} {:>11} {ratio:>7.2}", format!("{what} / {other}"), duration(first), duration(second));
+    println!("{:66} {:>11} {:>11} {ratio:>7.2}", format!("{what} / {other}"), duration(first), duration(second));
 }
 
 fn duration(nanoseconds: f64) -> String {
@@ -57,7 +57,7 @@ fn values() {
     ] {
         row(&what, "reference", compare(|| read(message), || by_reference(message)));
         if message != &run {
-            row(&what, "reference, no hashing", compare(|| read(message), || by_comparing(message)));
+            row(&what, "reference without hashing", compare(|| read(message), || by_comparing(message)));
         }
     }
 
