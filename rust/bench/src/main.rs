@@ -13,6 +13,7 @@ fn main() {
     println!("{}\n", machine());
     println!("{:66} {:>11} {:>11} {:>7}", "", "library", "other", "ratio");
     values();
+    requests();
     text();
     frames();
     rounds();
@@ -60,7 +61,9 @@ fn values() {
             row(&what, "reference without hashing", compare(|| read(message), || by_comparing(message)));
         }
     }
+}
 
+fn requests() {
     let request = |message: &[u8]| {
         compare(
             || {
@@ -71,7 +74,7 @@ fn values() {
             },
         )
     };
-    assert!(library::read_request(library::Version::V4_1, &run).is_ok());
+    let (run, large) = (inputs::typical_run(), inputs::large_run());
     row(&format!("request: RUN of {} bytes", run.len()), "reference", request(&run));
     row(&format!("request: RUN of {} bytes, 200 parameters", large.len()), "reference", request(&large));
 }

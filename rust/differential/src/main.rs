@@ -2,6 +2,7 @@
 //! difference. `differential [SEED]` tries other inputs.
 
 mod compare;
+mod conversation;
 mod generate;
 mod library;
 mod random;
