@@ -1,0 +1,186 @@
+//! Asks the proved library and the reference the same, on random inputs from fixed seeds, and fails at the first
+//! difference. `differential [SEED]` tries other inputs.
+
+mod compare;
+mod conversation;
+mod generate;
+mod library;
+mod random;
+mod sides;
+
+use compare::{Comparison, Difference, REFUSALS, REPLIES, Tally};
+use library::Library;
+use sides::{Reference, Side};
+use std::process::ExitCode;
+use std::time::Instant;
+
+/// Every part, with a share of its cases.
+fn compare<A: Side, B: Side>(left: &A, right: &B, seed: u64, share: u64) -> Result<Tally, Difference> {
+    type Part<'s, A, B> = (&'static str, u64, fn(&mut Comparison<'s, A, B>) -> Result<(), Difference>);
+    let parts: [Part<A, B>; 8] = [
+        ("handshakes", 20_000, Comparison::handshake),
+        ("frames", 60_000, Comparison::frame),
+        ("chunks", 40_000, Comparison::chunks),
+        ("values", 200_000, Comparison::value),
+        ("long values", 2_000, Comparison::long_value),
+        ("requests", 200_000, Comparison::request),
+        ("packing", 100_000, Comparison::packing),
+        ("conversations", 20_000, Comparison::conversation),
+    ];
+    let mut total = Tally::default();
+    for (index, (name, cases, part)) in parts.into_iter().enumerate() {
+        let start = Instant::now();
+        let mut comparison = Comparison::new(left, right, seed + index as u64);
+        for _ in 0..cases / share {
+            part(&mut comparison)?;
+        }
+        let Tally { accepted, refused, .. } = &comparison.tally;
+        let (refused, seconds) = (refused.values().sum::<u64>(), start.elapsed().as_secs_f64());
+        println!("{name:14} {:>7} cases {accepted:>8} accepted {refused:>8} refused {seconds:7.2} s", cases / share);
+        total.add(comparison.tally);
+    }
+    Ok(total)
+}
+
+/// What came, and whether everything came that there is.
+fn complete(tally: &Tally) -> bool {
+    let refused = REFUSALS.map(|number| (number.to_string(), tally.refused.get(&number).copied().unwrap_or(0)));
+    let replied = REPLIES.map(|name| (name.to_owned(), tally.replied.get(name).copied().unwrap_or(0)));
+    for (what, counts) in [("refusals", &refused[..]), ("replies", &replied)] {
+        let counts: Vec<String> = counts.iter().map(|(name, count)| format!("{name}: {count}")).collect();
+        println!("{what}: {}", counts.join(", "));
+    }
+    let missing = refused.iter().chain(&replied).find(|(_, count)| *count == 0);
+    missing.inspect(|(name, _)| println!("NEVER MET: {name}")).is_none()
+}
+
+fn main() -> ExitCode {
+    let seed = std::env::args().nth(1).and_then(|seed| seed.parse().ok()).unwrap_or(1);
+    match compare(&Library, &Reference, seed, 1) {
+        Ok(tally) if complete(&tally) => ExitCode::SUCCESS,
+        Ok(_) => ExitCode::FAILURE,
+        Err(difference) => {
+            println!("DIFFERENT (left: library, right: reference)\n{difference}");
+            ExitCode::FAILURE
+        }
+    }
+}
+
+#[cfg(test)]
+mod tests {
+    use super::*;
+    use crate::sides::{Asked, Call, Found, Image, Item, Reply};
+    use reference::Result;
+    use reference::frame::Frame;
+    use reference::handshake::Version;
+
+    /// The reference with one fault.
+    #[derive(Clone, Copy, PartialEq, Debug)]
+    enum Fault {
+        PreambleAfterLength,
+        WritesBeforeRefusing,
+        ForgetsLastHeader,
+        PlaceOfRepeat,
+        AlwaysNull,
+        AbsentIsZero,
+        NegativeIsWide,
+        AlwaysIdle,
+        LosesCount,
+    }
+
+    impl Side for Fault {
+        fn negotiate(&self, input: &[u8]) -> Result<Version> {
+            if *self == Fault::PreambleAfterLength && input.len() < 20 {
+                return Err(reference::Refusal::new(1));
+            }
+            Reference.negotiate(input)
+        }
+
+        fn read_frame(&self, version: Version, input: &[u8], buffer: &mut [u8]) -> Result<Frame> {
+            let answer = Reference.read_frame(version, input, buffer);
+            if *self == Fault::WritesBeforeRefusing && answer.is_err() && !buffer.is_empty() {
+                buffer[0] = !buffer[0];
+            }
+            answer
+        }
+
+        fn write_chunks(&self, message: &[u8], chunk: usize, buffer: &mut [u8]) -> Result<usize> {
+            let length = Reference.write_chunks(message, chunk, buffer)?;
+            Ok(if *self == Fault::ForgetsLastHeader { length - 2 } else { length })
+        }
+
+        fn read_message(&self, message: &[u8]) -> Result<Found> {
+            let mut found = Reference.read_message(message).map_err(|mut refusal| {
+                refusal.place += usize::from(*self == Fault::PlaceOfRepeat && refusal.number == 12);
+                refusal
+            })?;
+            if *self == Fault::AlwaysNull {
+                found.head = sides::Head::Null;
+            }
+            Ok(found)
+        }
+
+        fn read_value(&self, message: &[u8], at: usize, depth: usize) -> Result<Found> {
+            Reference.read_value(message, at, depth)
+        }
+
+        fn read_request(&self, version: Version, message: &[u8]) -> Result<Asked> {
+            let mut asked = Reference.read_request(version, message)?;
+            if let Asked::Begin(extra) = &mut asked
+                && *self == Fault::AbsentIsZero
+            {
+                extra.tx_timeout.get_or_insert(0);
+            }
+            Ok(asked)
+        }
+
+        fn pack(&self, item: Item, buffer: &mut [u8], at: usize) -> Result<usize> {
+            match item {
+                Item::Integer(number @ -128..0) if *self == Fault::NegativeIsWide => {
+                    let room = buffer.get_mut(at..at + 2).ok_or(reference::Refusal::new(21))?;
+                    room.copy_from_slice(&[0xC8, number as u8]);
+                    Ok(at + 2)
+                }
+                _ => Reference.pack(item, buffer, at),
+            }
+        }
+
+        fn fresh(&self) -> Image {
+            Reference.fresh()
+        }
+
+        fn call(&self, image: &mut Image, call: Call) -> Result<Reply> {
+            if *self == Fault::AlwaysIdle && call == Call::Take {
+                return Ok(Reply::Turned(reference::connection::Turn::Idle));
+            }
+            let reply = Reference.call(image, call)?;
+            if *self == Fault::LosesCount && matches!(reply, Reply::Reported(_)) {
+                image.sent -= 1;
+            }
+            Ok(reply)
+        }
+    }
+
+    #[test]
+    fn equal_sides_agree() {
+        assert!(compare(&Reference, &Reference, 7, 20).is_ok());
+    }
+
+    #[test]
+    fn every_fault_is_found() {
+        use Fault::*;
+        for fault in [
+            PreambleAfterLength,
+            WritesBeforeRefusing,
+            ForgetsLastHeader,
+            PlaceOfRepeat,
+            AlwaysNull,
+            AbsentIsZero,
+            NegativeIsWide,
+            AlwaysIdle,
+            LosesCount,
+        ] {
+            assert!(compare(&fault, &Reference, 7, 20).is_err(), "{fault:?}");
+        }
+    }
+}

@@ -1,0 +1,357 @@
+//! What both sides are asked, and how their answers are told so that they can be compared.
+
+use reference::connection::{Answer, Arrival, Connection, Kind, Report, State, Turn};
+use reference::frame::Frame;
+use reference::handshake::Version;
+use reference::pack::Summary;
+use reference::request::{Batch, Mode, Request};
+use reference::value::{Container, Value};
+use reference::{Refusal, Result, frame, handshake, pack, request, value};
+
+/// A value's own bytes, by offsets into its message.
+#[derive(Clone, Copy, PartialEq, Eq, Debug)]
+pub enum Head {
+    Null,
+    Boolean(bool),
+    Integer(i64),
+    Float(u64),
+    Bytes(Span),
+    String(Span),
+    List(Span),
+    Dictionary(Span),
+    Structure(u8, Span),
+}
+
+/// Start and size of content; of a container, where its first item lies and how many there are.
+#[derive(Clone, Copy, PartialEq, Eq, Debug)]
+pub struct Span {
+    pub start: usize,
+    pub size: usize,
+}
+
+#[derive(Clone, Copy, PartialEq, Eq, Debug)]
+pub struct Found {
+    pub head: Head,
+    pub end: usize,
+}
+
+/// A request with its fields; containers are told by the offset of their marker.
+#[derive(Clone, Copy, PartialEq, Eq, Debug)]
+pub enum Asked {
+    Hello {
+        user_agent: Span,
+        scheme: Option<Span>,
+        principal: Option<Span>,
+        credentials: Option<Span>,
+        routing: Option<usize>,
+    },
+    Run {
+        query: Span,
+        parameters: usize,
+        extra: Transaction,
+    },
+    Begin(Transaction),
+    Other(Kind),
+}
+
+#[derive(Clone, Copy, PartialEq, Eq, Debug)]
+pub struct Transaction {
+    pub bookmarks: Option<usize>,
+    pub tx_timeout: Option<i64>,
+    pub tx_metadata: Option<usize>,
+    pub mode: Option<Mode>,
+    pub db: Option<Span>,
+}
+
+/// A connection record in numbers, as it lies with the caller.
+#[derive(Clone, Copy, PartialEq, Eq, Debug)]
+pub struct Image {
+    pub state: u8,
+    pub in_flight: u8,
+    pub waiting: u64,
+    pub open: u64,
+    pub next: u64,
+    pub accepted: u64,
+    pub sent: u64,
+    pub streams: [u64; 8],
+    pub requests: [RequestImage; 32],
+}
+
+#[derive(Clone, Copy, PartialEq, Eq, Debug)]
+pub struct RequestImage {
+    pub kind: u8,
+    pub n: i64,
+    pub qid: i64,
+}
+
+#[derive(Clone, Copy, PartialEq, Eq, Debug)]
+pub enum Call {
+    Arrive(Kind),
+    Take,
+    Report(Report),
+    Close,
+}
+
+#[derive(Clone, Copy, PartialEq, Eq, Debug)]
+pub enum Reply {
+    Arrived(Arrival),
+    Turned(Turn),
+    Reported(Answer),
+    Closed,
+}
+
+/// What is packed behind `at`.
+#[derive(Clone, Copy, PartialEq, Eq, Debug)]
+pub enum Item<'a> {
+    Boolean(bool),
+    Integer(i64),
+    String(&'a [u8]),
+    Summary(Summary),
+}
+
+/// One side of the comparison.
+pub trait Side {
+    fn negotiate(&self, input: &[u8]) -> Result<Version>;
+    fn read_frame(&self, version: Version, input: &[u8], buffer: &mut [u8]) -> Result<Frame>;
+    fn write_chunks(&self, message: &[u8], chunk: usize, buffer: &mut [u8]) -> Result<usize>;
+    fn read_message(&self, message: &[u8]) -> Result<Found>;
+    fn read_value(&self, message: &[u8], at: usize, depth: usize) -> Result<Found>;
+    fn read_request(&self, version: Version, message: &[u8]) -> Result<Asked>;
+    /// Answers the offset behind what was packed.
+    fn pack(&self, item: Item, buffer: &mut [u8], at: usize) -> Result<usize>;
+    fn fresh(&self) -> Image;
+    fn call(&self, image: &mut Image, call: Call) -> Result<Reply>;
+}
+
+/// The implementation written from the papers.
+pub struct Reference;
+
+impl Side for Reference {
+    fn negotiate(&self, input: &[u8]) -> Result<Version> {
+        handshake::choose(input)
+    }
+
+    fn read_frame(&self, version: Version, input: &[u8], buffer: &mut [u8]) -> Result<Frame> {
+        frame::read(version, input, buffer)
+    }
+
+    fn write_chunks(&self, message: &[u8], chunk: usize, buffer: &mut [u8]) -> Result<usize> {
+        frame::write(message, chunk, buffer)
+    }
+
+    fn read_message(&self, message: &[u8]) -> Result<Found> {
+        Ok(Found { head: head(message, value::read(message)?), end: message.len() })
+    }
+
+    fn read_value(&self, message: &[u8], at: usize, depth: usize) -> Result<Found> {
+        let (value, end) = value::read_at(message, at, depth)?;
+        Ok(Found { head: head(message, value), end })
+    }
+
+    fn read_request(&self, version: Version, message: &[u8]) -> Result<Asked> {
+        Ok(asked(message, request::read(version, message)?))
+    }
+
+    fn pack(&self, item: Item, buffer: &mut [u8], at: usize) -> Result<usize> {
+        let behind = buffer.get_mut(at..).unwrap_or_default();
+        let length = match item {
+            Item::Boolean(value) => pack::boolean(value, behind),
+            Item::Integer(number) => pack::integer(number, behind),
+            Item::String(text) => pack::string(text, behind),
+            Item::Summary(summary) => pack::summary(summary, behind),
+        }?;
+        Ok(at + length)
+    }
+
+    fn fresh(&self) -> Image {
+        let blank = RequestImage { kind: 0, n: 0, qid: 0 };
+        let mut image = Image {
+            state: 0,
+            in_flight: 0,
+            waiting: 0,
+            open: 0,
+            next: 0,
+            accepted: 0,
+            sent: 0,
+            streams: [0; 8],
+            requests: [blank; 32],
+        };
+        image.keep(&Connection::default());
+        image
+    }
+
+    fn call(&self, image: &mut Image, call: Call) -> Result<Reply> {
+        let mut connection = image.connection().ok_or(Refusal::new(Refusal::RULE_BROKEN))?;
+        let reply = match call {
+            Call::Arrive(kind) => Reply::Arrived(connection.arrive(kind)?),
+            Call::Take => Reply::Turned(connection.take()?),
+            Call::Report(report) => Reply::Reported(connection.report(report)?),
+            Call::Close => {
+                connection.close()?;
+                Reply::Closed
+            }
+        };
+        image.keep(&connection);
+        Ok(reply)
+    }
+}
+
+pub const STATES: [State; 8] = [
+    State::Connected,
+    State::Ready,
+    State::Streaming,
+    State::TxReady,
+    State::TxStreaming,
+    State::Failed,
+    State::Interrupted,
+    State::Defunct,
+];
+
+impl RequestImage {
+    pub fn new(kind: Kind) -> Self {
+        let (kind, batch) = match kind {
+            Kind::Hello => (0x01, None),
+            Kind::Goodbye => (0x02, None),
+            Kind::Reset => (0x0F, None),
+            Kind::Run => (0x10, None),
+            Kind::Begin => (0x11, None),
+            Kind::Commit => (0x12, None),
+            Kind::Rollback => (0x13, None),
+            Kind::Discard(batch) => (0x2F, Some(batch)),
+            Kind::Pull(batch) => (0x3F, Some(batch)),
+        };
+        let Batch { n, qid } = batch.unwrap_or(Batch { n: 0, qid: 0 });
+        RequestImage { kind, n, qid }
+    }
+
+    pub fn kind(self) -> Option<Kind> {
+        let batch = Batch { n: self.n, qid: self.qid };
+        Some(match self.kind {
+            0x01 => Kind::Hello,
+            0x02 => Kind::Goodbye,
+            0x0F => Kind::Reset,
+            0x10 => Kind::Run,
+            0x11 => Kind::Begin,
+            0x12 => Kind::Commit,
+            0x13 => Kind::Rollback,
+            0x2F => Kind::Discard(batch),
+            0x3F => Kind::Pull(batch),
+            _ => return None,
+        })
+    }
+}
+
+impl Image {
+    /// The record that the numbers name, if they name one.
+    fn connection(&self) -> Option<Connection> {
+        let mut connection = Connection {
+            state: *STATES.get(usize::from(self.state))?,
+            in_flight: [false, true].get(usize::from(self.in_flight)).copied()?,
+            waiting_count: self.waiting,
+            open: self.streams,
+            open_count: self.open,
+            next: self.next,
+            accepted: self.accepted,
+            sent: self.sent,
+            ..Connection::default()
+        };
+        for (kind, image) in connection.waiting.iter_mut().zip(self.waiting()) {
+            *kind = image.kind()?;
+        }
+        Some(connection)
+    }
+
+    fn keep(&mut self, connection: &Connection) {
+        self.state = STATES.iter().position(|&state| state == connection.state).unwrap_or(255) as u8;
+        self.in_flight = u8::from(connection.in_flight);
+        self.waiting = connection.waiting_count;
+        self.open = connection.open_count;
+        self.next = connection.next;
+        self.accepted = connection.accepted;
+        self.sent = connection.sent;
+        self.streams = connection.open;
+        for (image, &kind) in self.requests.iter_mut().zip(connection.requests()) {
+            *image = RequestImage::new(kind);
+        }
+    }
+
+    pub fn waiting(&self) -> &[RequestImage] {
+        &self.requests[..self.waiting.min(32) as usize]
+    }
+
+    pub fn streams(&self) -> &[u64] {
+        &self.streams[..self.open.min(8) as usize]
+    }
+
+    /// Whether both keep the same. The order of the open streams, and what stands past the counts, mean nothing.
+    pub fn same(&self, other: &Image) -> bool {
+        let numbers = |image: &Image| {
+            (image.state, image.in_flight, image.waiting, image.open, image.next, image.accepted, image.sent)
+        };
+        let sorted = |image: &Image| {
+            let mut streams = image.streams().to_vec();
+            streams.sort_unstable();
+            streams
+        };
+        numbers(self) == numbers(other)
+            && sorted(self) == sorted(other)
+            && self
+                .waiting()
+                .iter()
+                .map(|request| request.kind())
+                .eq(other.waiting().iter().map(|request| request.kind()))
+    }
+}
+
+fn span(message: &[u8], part: &[u8]) -> Span {
+    Span { start: part.as_ptr() as usize - message.as_ptr() as usize, size: part.len() }
+}
+
+fn items(container: Container) -> Span {
+    Span { start: container.start, size: container.size }
+}
+
+fn head(message: &[u8], value: Value) -> Head {
+    match value {
+        Value::Null => Head::Null,
+        Value::Boolean(value) => Head::Boolean(value),
+        Value::Integer(number) => Head::Integer(number),
+        Value::Float(number) => Head::Float(number.to_bits()),
+        Value::Bytes(bytes) => Head::Bytes(span(message, bytes)),
+        Value::String(text) => Head::String(span(message, text.as_bytes())),
+        Value::List(container) => Head::List(items(container)),
+        Value::Dictionary(container) => Head::Dictionary(items(container)),
+        Value::Structure { tag, fields } => Head::Structure(tag, items(fields)),
+    }
+}
+
+fn asked(message: &[u8], request: Request) -> Asked {
+    let text = |text: &str| span(message, text.as_bytes());
+    let place = |container: Container| container.place;
+    let transaction = |extra: request::Transaction| Transaction {
+        bookmarks: extra.bookmarks.map(place),
+        tx_timeout: extra.tx_timeout,
+        tx_metadata: extra.tx_metadata.map(place),
+        mode: extra.mode,
+        db: extra.db.map(text),
+    };
+    match request {
+        Request::Hello(hello) => Asked::Hello {
+            user_agent: text(hello.user_agent),
+            scheme: hello.scheme.map(text),
+            principal: hello.principal.map(text),
+            credentials: hello.credentials.map(text),
+            routing: hello.routing.map(place),
+        },
+        Request::Run { query, parameters, extra } => {
+            Asked::Run { query: text(query), parameters: parameters.place, extra: transaction(extra) }
+        }
+        Request::Begin(extra) => Asked::Begin(transaction(extra)),
+        Request::Goodbye => Asked::Other(Kind::Goodbye),
+        Request::Reset => Asked::Other(Kind::Reset),
+        Request::Commit => Asked::Other(Kind::Commit),
+        Request::Rollback => Asked::Other(Kind::Rollback),
+        Request::Discard(batch) => Asked::Other(Kind::Discard(batch)),
+        Request::Pull(batch) => Asked::Other(Kind::Pull(batch)),
+    }
+}
