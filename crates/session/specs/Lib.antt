@@ -4,3 +4,4 @@ pub mod Receiving
 pub mod Session
 pub mod KeepAlive
 pub mod Idle
+pub mod Cases
