@@ -5,3 +5,4 @@ pub mod Session
 pub mod KeepAlive
 pub mod Idle
 pub mod Cases
+pub mod Room
