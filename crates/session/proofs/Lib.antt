@@ -5,3 +5,4 @@ pub mod Writing
 pub mod KeepAlive
 pub mod Idle
 pub mod Fitting
+pub mod Room

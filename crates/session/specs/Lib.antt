@@ -4,4 +4,6 @@ pub mod Receiving
 pub mod Session
 pub mod KeepAlive
 pub mod Idle
+pub mod Room
+pub mod Cases
 pub mod Starred

@@ -87,6 +87,11 @@ nextOf s line = inPhase (s .phase) (s .connection) line
 abbrev pub written : Next → List ℕ
 written n = text (n .lines)
 
+-- a whole run: each line gets the session as the one before left it, until the run ends
+unfoldable pub runOf : Session → List (List ℕ) → List ℕ
+runOf s [] = []
+runOf s (line ∷ lines) = written (nextOf s line) ++ cond (nextOf s line .goesOn) (runOf (nextOf s line .session) lines) []
+
 -- one more line, with room for so many characters: "no room .. exactly if the whole output is longer than the buffer"
 unfoldable pub handling : ℕ → Session → List ℕ → Answer Next
 handling room s line = cond (ltb room (length (written (nextOf s line)))) (refused 21 0) (result (nextOf s line))

@@ -1,10 +1,12 @@
 // Serving a request: it arrives, and then the session takes and reports plain success until the connection is idle or closed.
 ghost use mathlib.Core.Path.{_≡_};
+ghost use mathlib.Core.List.{map};
 ghost use Prim.Native.Nat.{_≤_};
+ghost use lib.ListN.{take};
 ghost use Rattle.refusal.specs.Numbers.{numberOf};
 ghost use Rattle.connection.specs.declared.answers.Outcome.the-variants.{Success};
 ghost use Rattle.connection.specs.Record.{reportOf, toldTake};
-ghost use Rattle.session.specs.Serving.{stopped, afterRefusal, refusing, turnOf, serving, turns, served, endOf, servedBy};
+ghost use Rattle.session.specs.Serving.{stopped, afterRefusal, refusing, turnOf, serving, turns, served, endOf, summaryIn, servedBy};
 use connection::answers::AfterTake;
 use connection::answers::Arrival;
 use connection::answers::Outcome;
@@ -125,6 +127,20 @@ fn turn(connection: Connection) -> AfterTake
     }
 }
 
+// What has been served when there is no more to do.
+fn ended(connection: Connection, sent: [Sent; 33], count: usize, ending: Ending) -> Served
+    requires { ⌜ count ≤ 33 ⌝ }
+    ensures told { λ r. ⌜ servedBy r ≡ record { summaries = map summaryIn (take count sent); end = endOf ending; connection = connection } ⌝ }
+    ensures few { λ r. ⌜ r .count ≤ 33 ⌝ }
+{
+    Served {
+        connection: connection,
+        sent: sent,
+        count: count,
+        ending: ending,
+    }
+}
+
 // Turn after turn, until the connection is idle or closed. No more than 32 requests wait, so that the turns never run out before.
 fn serve(connection: Connection) -> Served
     ensures told { λ r. ⌜ servedBy r ≡ serving turns connection ⌝ }
@@ -145,49 +161,19 @@ fn serve(connection: Connection) -> Served
                 sent[count] = Sent { summary: summary };
                 count += 1;
             }
-            Taken::Idle => {
-                return Served {
-                    connection: connection,
-                    sent: sent,
-                    count: count,
-                    ending: Ending::Idle,
-                };
-            }
+            Taken::Idle => return ended(connection, sent, count, Ending::Idle),
             Taken::Handed {
                 request: _,
                 number: _,
-            } => {
-                return Served {
-                    connection: connection,
-                    sent: sent,
-                    count: count,
-                    ending: Ending::Idle,
-                };
-            }
-            Taken::Closed => {
-                return Served {
-                    connection: connection,
-                    sent: sent,
-                    count: count,
-                    ending: Ending::Closed,
-                };
-            }
+            } => return ended(connection, sent, count, Ending::Idle),
+            Taken::Closed => return ended(connection, sent, count, Ending::Closed),
             Taken::Refused(why) => {
-                return Served {
-                    connection: after_refusal(connection, why),
-                    sent: sent,
-                    count: count,
-                    ending: Ending::Refused(why),
-                };
+                let closed = after_refusal(connection, why);
+                return ended(closed, sent, count, Ending::Refused(why));
             }
         }
     }
-    Served {
-        connection: connection,
-        sent: sent,
-        count: count,
-        ending: Ending::Idle,
-    }
+    ended(connection, sent, count, Ending::Idle)
 }
 
 // A request arrives and is served, with all that waited before it.

@@ -1,3 +1,5 @@
+-- `trial::run` meets its contract. The loop's invariant: the line that has begun at `start` has no end before `seen`, and what was read ends at
+-- `end`. The measure is the turns left. Assumes nothing.
 use mathlib.Core.Path.{_≡_}
 use Prim.Native.Nat.{_≤_}
 use native.Mathlib.Omega.{arith}
@@ -6,17 +8,6 @@ use lib.ListN.{length}
 use Rattle.lines.proofs.Lines.{first-fits, kept-fits}
 use Rattle.trial.proofs.run.Statement.{statement}
 use Rattle.trial.proofs.run.Tie as tie
-use Rattle.trial.proofs.run.Reads as reads
-use Rattle.trial.proofs.run.Lts as lts
-use Rattle.io.proofs.count.Reads as count-reads
-use Rattle.libc.proofs.read.Reads as read-reads
-use Rattle.lines.proofs.first_length.Reads as first-length-reads
-use Rattle.lines.proofs.keep.Reads as keep-reads
-use Rattle.session.proofs.phase.fresh.Reads as fresh-reads
-use Rattle.trial.proofs.flush.Reads as flush-reads
-use Rattle.trial.proofs.least.Reads as least-reads
-use Rattle.trial.proofs.run_last.Reads as run-last-reads
-use Rattle.trial.proofs.run_line.Reads as run-line-reads
 
 abbrev Inv-loop : tie.InvT-loop
 Inv-loop input₀ out₀ session₀ unwritten₀ turns₀ start₀ seen₀ end₀ input out session unwritten turns start seen end = (start ≤ seen) × (seen ≤ end) × (end ≤ length input) × (unwritten ≤ length out) × (length input ≡ length input₀) × (length out ≡ length out₀)
@@ -24,179 +15,157 @@ Inv-loop input₀ out₀ session₀ unwritten₀ turns₀ start₀ seen₀ end�
 abbrev μ-loop : tie.MeasureT-loop
 μ-loop input₀ out₀ session₀ unwritten₀ turns₀ start₀ seen₀ end₀ input out session unwritten turns start seen end = turns
 
--- src/main.rt:92:9
 fresh-requires : tie.Need-fresh-requires Inv-loop μ-loop
 fresh-requires c κs = search needs
 
--- src/main.rt:98:5
 loop-holds : tie.Need-loop-holds Inv-loop μ-loop
 loop-holds c = search needs
 
--- src/main.rt:99:9
 sub-turns : tie.Need-sub-turns Inv-loop μ-loop
 sub-turns c = search needs
 
--- src/main.rt:100:45
 sub-first-length : tie.Need-sub-first-length Inv-loop μ-loop
 sub-first-length c = search needs
 
--- src/main.rt:100:45
 part-first-length-start : tie.Need-part-first-length-start Inv-loop μ-loop
 part-first-length-start c = search needs
 
--- src/main.rt:100:45
 part-first-length-end : tie.Need-part-first-length-end Inv-loop μ-loop
 part-first-length-end c = search needs
 
--- src/main.rt:100:25
 first-length-requires : tie.Need-first-length-requires Inv-loop μ-loop
 first-length-requires c κs = search needs
 
--- src/main.rt:100:18
 add-at : tie.Need-add-at Inv-loop μ-loop
 add-at c = omega (arith, first-fits _ (c .first-length .ensures))
 
--- src/main.rt:102:41
 sub-run-line : tie.Need-sub-run-line Inv-loop μ-loop
 sub-run-line c = search needs
 
--- src/main.rt:102:41
 part-run-line-start : tie.Need-part-run-line-start Inv-loop μ-loop
 part-run-line-start c = search needs
 
--- src/main.rt:102:41
 part-run-line-end : tie.Need-part-run-line-end Inv-loop μ-loop
 part-run-line-end c = search needs
 
--- src/main.rt:102:17
 run-line-requires : tie.Need-run-line-requires Inv-loop μ-loop
 run-line-requires c κs = search needs
 
--- src/main.rt:105:17
 flush-requires : tie.Need-flush-requires Inv-loop μ-loop
 flush-requires c κs = search needs
 
--- src/main.rt:106:17
 same-length : tie.Need-same-length Inv-loop μ-loop
 same-length c = search needs
 
--- src/main.rt:106:17
 same-length-2 : tie.Need-same-length-2 Inv-loop μ-loop
 same-length-2 c = search needs
 
--- src/main.rt:106:17
 returns : tie.Need-returns Inv-loop μ-loop
 returns c = search needs
 
--- src/main.rt:109:21
 add-start : tie.Need-add-start Inv-loop μ-loop
-add-start c = omega (arith, c .before .before .before .before .before .before .before .before .before .if1 .taken, c .before .before .before .before .before .before .before .before .before .before .before .before .before .before .loop .inv .2, c .before .before .before .before .before .before .before .before .before .before .before .before .before .before .loop .inv .4, c .before .before .before .before .before .before .before .before .before .before .before .before .before .before .before .before .before .before .good .0 .1)
+add-start c =
+    let g = c .before .before .before .before .before .before .before .before .before .before .before .before .before .before .before .before .before .before in
+    let l = c .before .before .before .before .before .before .before .before .before .before .before .before .before .before in
+    let i = c .before .before .before .before .before .before .before .before .before in
+    omega (arith, i .if1 .taken, l .loop .inv .2, l .loop .inv .4, g .good .0 .1)
 
--- src/main.rt:98:5
 loop-less : tie.Need-loop-less Inv-loop μ-loop
 loop-less c = search needs
 
--- src/main.rt:98:5
 loop-again : tie.Need-loop-again Inv-loop μ-loop
 loop-again c = search needs
 
--- src/main.rt:112:13
 flush-requires-2 : tie.Need-flush-requires-2 Inv-loop μ-loop
 flush-requires-2 c κs = search needs
 
--- src/main.rt:114:56
 sub-least : tie.Need-sub-least Inv-loop μ-loop
 sub-least c = search needs
 
--- src/main.rt:114:50
 least-requires : tie.Need-least-requires Inv-loop μ-loop
 least-requires c κs = search needs
 
--- src/main.rt:114:17
 keep-requires : tie.Need-keep-requires Inv-loop μ-loop
 keep-requires c κs = search needs
 
--- src/main.rt:115:48
 sub-read : tie.Need-sub-read Inv-loop μ-loop
-sub-read c = omega (arith, kept-fits (c .before .before .before .before .before .before .before .before .before .before .before .before .loop .input) (c .before .before .before .before .before .before .before .before .before .before .before .before .loop .start) (c .before .before .before .least .result) (c .before .before .keep .ensures .0))
+sub-read c =
+    let l = c .before .before .before .before .before .before .before .before .before .before .before .before in
+    let m = c .before .before .before in
+    omega (arith, kept-fits (l .loop .input) (l .loop .start) (m .least .result) (c .before .before .keep .ensures .0))
 
--- src/main.rt:115:48
 part-read-start : tie.Need-part-read-start Inv-loop μ-loop
-part-read-start c = omega (arith, kept-fits (c .before .before .before .before .before .before .before .before .before .before .before .before .loop .input) (c .before .before .before .before .before .before .before .before .before .before .before .before .loop .start) (c .before .before .before .least .result) (c .before .before .keep .ensures .0))
+part-read-start c =
+    let l = c .before .before .before .before .before .before .before .before .before .before .before .before in
+    let m = c .before .before .before in
+    omega (arith, kept-fits (l .loop .input) (l .loop .start) (m .least .result) (c .before .before .keep .ensures .0))
 
--- src/main.rt:115:48
 part-read-end : tie.Need-part-read-end Inv-loop μ-loop
 part-read-end c = search needs
 
--- src/main.rt:115:17
 read-requires : tie.Need-read-requires Inv-loop μ-loop
 read-requires c κs = search needs
 
--- src/main.rt:116:36
 sub-count : tie.Need-sub-count Inv-loop μ-loop
-sub-count c = omega (arith, kept-fits (c .before .before .before .before .before .before .before .before .before .before .before .before .before .before .before .before .loop .input) (c .before .before .before .before .before .before .before .before .before .before .before .before .before .before .before .before .loop .start) (c .before .before .before .before .before .before .before .least .result) (c .before .before .before .before .before .before .keep .ensures .0))
+sub-count c =
+    let l = c .before .before .before .before .before .before .before .before .before .before .before .before .before .before .before .before in
+    let m = c .before .before .before .before .before .before .before in
+    let k = c .before .before .before .before .before .before in
+    omega (arith, kept-fits (l .loop .input) (l .loop .start) (m .least .result) (k .keep .ensures .0))
 
--- src/main.rt:116:36
 part-count-start : tie.Need-part-count-start Inv-loop μ-loop
-part-count-start c = omega (arith, kept-fits (c .before .before .before .before .before .before .before .before .before .before .before .before .before .before .before .before .before .loop .input) (c .before .before .before .before .before .before .before .before .before .before .before .before .before .before .before .before .before .loop .start) (c .before .before .before .before .before .before .before .before .least .result) (c .before .before .before .before .before .before .before .keep .ensures .0))
+part-count-start c =
+    let l = c .before .before .before .before .before .before .before .before .before .before .before .before .before .before .before .before .before in
+    let m = c .before .before .before .before .before .before .before .before in
+    let k = c .before .before .before .before .before .before .before in
+    omega (arith, kept-fits (l .loop .input) (l .loop .start) (m .least .result) (k .keep .ensures .0))
 
--- src/main.rt:116:36
 part-count-end : tie.Need-part-count-end Inv-loop μ-loop
 part-count-end c = search needs
 
--- src/main.rt:116:17
 count-requires : tie.Need-count-requires Inv-loop μ-loop
 count-requires c κs = search needs
 
--- src/main.rt:118:35
 sub-run-last : tie.Need-sub-run-last Inv-loop μ-loop
 sub-run-last c = search needs
 
--- src/main.rt:118:35
 part-run-last-start : tie.Need-part-run-last-start Inv-loop μ-loop
 part-run-last-start c = search needs
 
--- src/main.rt:118:35
 part-run-last-end : tie.Need-part-run-last-end Inv-loop μ-loop
-part-run-last-end c = omega (arith, kept-fits (c .before .before .before .before .before .before .before .before .before .before .before .before .before .before .before .before .before .before .before .before .before .loop .input) (c .before .before .before .before .before .before .before .before .before .before .before .before .before .before .before .before .before .before .before .before .before .loop .start) (c .before .before .before .before .before .before .before .before .before .before .before .before .least .result) (c .before .before .before .before .before .before .before .before .before .before .before .keep .ensures .0))
+part-run-last-end c =
+    let l = c .before .before .before .before .before .before .before .before .before .before .before .before .before .before .before .before .before .before .before .before .before in
+    let m = c .before .before .before .before .before .before .before .before .before .before .before .before in
+    let k = c .before .before .before .before .before .before .before .before .before .before .before in
+    omega (arith, kept-fits (l .loop .input) (l .loop .start) (m .least .result) (k .keep .ensures .0))
 
--- src/main.rt:118:17
 run-last-requires : tie.Need-run-last-requires Inv-loop μ-loop
 run-last-requires c κs = search needs
 
--- src/main.rt:119:17
 same-length-3 : tie.Need-same-length-3 Inv-loop μ-loop
 same-length-3 c = search needs
 
--- src/main.rt:119:17
 same-length-4 : tie.Need-same-length-4 Inv-loop μ-loop
 same-length-4 c = search needs
 
--- src/main.rt:119:17
 returns-2 : tie.Need-returns-2 Inv-loop μ-loop
 returns-2 c = search needs
 
--- src/main.rt:123:19
 add-end : tie.Need-add-end Inv-loop μ-loop
 add-end c = search needs
 
--- src/main.rt:98:5
 loop-less-2 : tie.Need-loop-less-2 Inv-loop μ-loop
 loop-less-2 c = search needs
 
--- src/main.rt:98:5
 loop-again-2 : tie.Need-loop-again-2 Inv-loop μ-loop
 loop-again-2 c = search needs
 
--- src/main.rt:91:1
 same-length-5 : tie.Need-same-length-5 Inv-loop μ-loop
 same-length-5 c = search needs
 
--- src/main.rt:91:1
 same-length-6 : tie.Need-same-length-6 Inv-loop μ-loop
 same-length-6 c = search needs
 
--- src/main.rt:91:1
 returns-3 : tie.Need-returns-3 Inv-loop μ-loop
 returns-3 c = search needs
 

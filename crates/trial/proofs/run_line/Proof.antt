@@ -1,76 +1,65 @@
+-- `trial::run_line` meets its contract: what a line sends lies inside what was lent. Assumes nothing.
 use mathlib.Core.Path.{sym, ap, _∙_}
 use native.Mathlib.Omega.{arith}
+use borrow.Author.Needs.{needs}
 use Rattle.session.specs.Session.{told}
 use Rattle.session.proofs.Fitting.{told-fits}
-use borrow.Author.Needs.{needs}
 use Rattle.trial.proofs.run_line.Statement.{statement}
 use Rattle.trial.proofs.run_line.Tie as tie
-use Rattle.trial.proofs.run_line.Reads as reads
-use Rattle.trial.proofs.run_line.Lts as lts
-use Rattle.session.proofs.line.handle.Reads as handle-reads
-use Rattle.trial.proofs.make_room.Reads as make-room-reads
 
--- src/main.rt:52:9
 make-room-requires : tie.Need-make-room-requires
 make-room-requires c κs = search needs
 
--- src/main.rt:53:45
 sub-handle : tie.Need-sub-handle
 sub-handle c = search needs
 
--- src/main.rt:53:45
 part-handle-start : tie.Need-part-handle-start
 part-handle-start c = search needs
 
--- src/main.rt:53:45
 part-handle-end : tie.Need-part-handle-end
 part-handle-end c = search needs
 
--- src/main.rt:53:9
 handle-requires : tie.Need-handle-requires
 handle-requires c κs = search needs
 
--- src/main.rt:57:25
 enum-known-answer : tie.Need-enum-known-answer
 enum-known-answer c = search needs
 
--- src/main.rt:59:24
 add-t18 : tie.Need-add-t18
-add-t18 c = omega (arith, told-fits _ _ _ (sym (ap told (c .before .answer .given .1)) ∙ c .before .before .before .before .before .before .handle .ensures .0))
+add-t18 c =
+    let h = c .before .before .before .before .before .before in
+    omega (arith, told-fits _ _ _ (sym (ap told (c .before .answer .given .1)) ∙ h .handle .ensures .0))
 
--- src/main.rt:62:24
 enum-known-answer-2 : tie.Need-enum-known-answer-2
 enum-known-answer-2 c = search needs
 
--- src/main.rt:64:24
 add-t19 : tie.Need-add-t19
-add-t19 c = omega (arith, told-fits _ _ _ (sym (ap told (c .before .answer2 .given .1)) ∙ c .before .before .before .before .before .before .handle .ensures .0))
+add-t19 c =
+    let h = c .before .before .before .before .before .before in
+    omega (arith, told-fits _ _ _ (sym (ap told (c .before .answer2 .given .1)) ∙ h .handle .ensures .0))
 
--- src/main.rt:67:32
 enum-told : tie.Need-enum-told
 enum-told c = search needs
 
--- src/main.rt:48:1
 same-length : tie.Need-same-length
 same-length c = search needs
 
--- src/main.rt:48:1
 returns : tie.Need-returns
-returns c = omega (arith, told-fits _ _ _ (sym (ap told (c .before .answer .given .1)) ∙ c .before .before .before .before .before .before .handle .ensures .0))
+returns c =
+    let h = c .before .before .before .before .before .before in
+    omega (arith, told-fits _ _ _ (sym (ap told (c .before .answer .given .1)) ∙ h .handle .ensures .0))
 
--- src/main.rt:48:1
 same-length-2 : tie.Need-same-length-2
 same-length-2 c = search needs
 
--- src/main.rt:48:1
 returns-2 : tie.Need-returns-2
-returns-2 c = omega (arith, told-fits _ _ _ (sym (ap told (c .before .answer2 .given .1)) ∙ c .before .before .before .before .before .before .handle .ensures .0))
+returns-2 c =
+    let h = c .before .before .before .before .before .before in
+    omega (arith, told-fits _ _ _ (sym (ap told (c .before .answer2 .given .1)) ∙ h .handle .ensures .0))
 
--- src/main.rt:48:1
 same-length-3 : tie.Need-same-length-3
 same-length-3 c = search needs
 
--- src/main.rt:48:1
 returns-3 : tie.Need-returns-3
 returns-3 c = search needs
 

@@ -1,58 +1,43 @@
-use mathlib.Core.Path.{_≡_, refl, sym, ap, _∙_}
-use Rattle.session.proofs.Turns.{turned}
+-- `serve::turn` meets its contract: in each arm the match told what take answered. Assumes nothing.
+use mathlib.Core.Path.{_∙_}
 use borrow.Author.Needs.{needs}
+use Rattle.session.proofs.Turns.{turned}
 use Rattle.session.proofs.serve.turn.Statement.{statement}
 use Rattle.session.proofs.serve.turn.Tie as tie
-use Rattle.session.proofs.serve.turn.Reads as reads
-use Rattle.session.proofs.serve.turn.Lts as lts
-use Rattle.connection.proofs.take.take.Reads as take-reads
-use Rattle.session.proofs.serve.succeed.Reads as succeed-reads
 
--- src/serve.rt:108:9
 take-requires : tie.Need-take-requires
 take-requires c κs = search needs
 
--- src/serve.rt:115:17
 enum-told : tie.Need-enum-told
 enum-told c = search needs
 
--- src/serve.rt:116:13
 succeed-requires : tie.Need-succeed-requires
 succeed-requires c κs = search needs
 
--- src/serve.rt:118:24
 enum-told-2 : tie.Need-enum-told-2
 enum-told-2 c = search needs
 
--- src/serve.rt:119:26
 enum-told-3 : tie.Need-enum-told-3
 enum-told-3 c = search needs
 
--- src/serve.rt:123:14
 enum-told-4 : tie.Need-enum-told-4
 enum-told-4 c = search needs
 
--- src/serve.rt:124:30
 enum-told-5 : tie.Need-enum-told-5
 enum-told-5 c = search needs
 
--- src/serve.rt:105:1
 returns : tie.Need-returns
 returns c = let d = c .before .before .before .before in c .succeed .ensures ∙ turned _ (d .take .result) _ (d .take .ensures) (c .before .before .enum-told .given .1)
 
--- src/serve.rt:105:1
 returns-2 : tie.Need-returns-2
 returns-2 c = turned _ (c .before .before .take .result) _ (c .before .before .take .ensures) (c .enum-told2 .given .1)
 
--- src/serve.rt:105:1
 returns-3 : tie.Need-returns-3
 returns-3 c = turned _ (c .before .before .take .result) _ (c .before .before .take .ensures) (c .enum-told3 .given .1)
 
--- src/serve.rt:105:1
 returns-4 : tie.Need-returns-4
 returns-4 c = turned _ (c .before .before .take .result) _ (c .before .before .take .ensures) (c .enum-told4 .given .1)
 
--- src/serve.rt:105:1
 returns-5 : tie.Need-returns-5
 returns-5 c = turned _ (c .before .before .take .result) _ (c .before .before .take .ensures) (c .enum-told5 .given .1)
 

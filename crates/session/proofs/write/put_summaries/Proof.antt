@@ -1,3 +1,4 @@
+-- `write::put_summaries` meets its contract. The loop's invariant: the lines before the i-th are written. The measure is the lines left. Assumes nothing.
 use Prim.Native.Nat.{_-_}
 use native.Mathlib.Omega.{arith}
 use borrow.Author.Needs.{needs}
@@ -5,9 +6,6 @@ use Rattle.connection.specs.declared.answers.Summary.the-variants.{Ignored}
 use Rattle.session.proofs.Writing.{Puts, puts-none, puts-fits, puts-next, puts-done}
 use Rattle.session.proofs.write.put_summaries.Statement.{statement}
 use Rattle.session.proofs.write.put_summaries.Tie as tie
-use Rattle.session.proofs.write.put_summaries.Reads as reads
-use Rattle.session.proofs.write.put_summaries.Lts as lts
-use Rattle.session.proofs.write.put_summary.Reads as put-summary-reads
 
 abbrev Inv-loop : tie.InvT-loop
 Inv-loop count out₀ at sent to₀ i₀ out to i = Puts sent count out₀ out at to i
@@ -15,39 +13,36 @@ Inv-loop count out₀ at sent to₀ i₀ out to i = Puts sent count out₀ out a
 abbrev μ-loop : tie.MeasureT-loop
 μ-loop count out₀ at sent to₀ i₀ out to i = count - i
 
--- src/write.rt:80:5
 loop-holds : tie.Need-loop-holds Inv-loop μ-loop
 loop-holds c = let l = c .before .good .0 .1 .0 .1 in puts-none _ _ _ _ (omega arith)
 
--- src/write.rt:81:20
 mul-next : tie.Need-mul-next Inv-loop μ-loop
 mul-next c = search needs
 
--- src/write.rt:81:20
 array-copy-out-next : tie.Need-array-copy-out-next Inv-loop μ-loop
 array-copy-out-next c = search needs
 
--- src/write.rt:83:9
 put-summary-requires : tie.Need-put-summary-requires Inv-loop μ-loop
-put-summary-requires c κs = puts-fits (c .before .before .before .loop .inv) (record { summary = Ignored }) (omega arith) (c .before .before .before .before .before .pre .1)
+put-summary-requires c κs =
+    let s = c .before .before .before .before .before in
+    let l = c .before .before .before in
+    puts-fits (l .loop .inv) (record { summary = Ignored }) (omega arith) (s .pre .1)
 
--- src/write.rt:84:9
 add-i : tie.Need-add-i Inv-loop μ-loop
 add-i c = search needs
 
--- src/write.rt:80:5
 loop-less : tie.Need-loop-less Inv-loop μ-loop
 loop-less c = search needs
 
--- src/write.rt:80:5
 loop-again : tie.Need-loop-again Inv-loop μ-loop
-loop-again c = puts-next (c .before .before .before .before .before .before .loop .inv) (record { summary = Ignored }) (omega arith) _ _ (c .before .before .put-summary .ensures .1) (c .before .before .put-summary .ensures .0)
+loop-again c =
+    let l = c .before .before .before .before .before .before in
+    let p = c .before .before in
+    puts-next (l .loop .inv) (record { summary = Ignored }) (omega arith) _ _ (p .put-summary .ensures .1) (p .put-summary .ensures .0)
 
--- src/write.rt:73:1
 same-length : tie.Need-same-length Inv-loop μ-loop
 same-length c = c .before .loop .inv .size
 
--- src/write.rt:73:1
 returns : tie.Need-returns Inv-loop μ-loop
 returns c = puts-done (c .before .loop .inv) (omega arith)
 
