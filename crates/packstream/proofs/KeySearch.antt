@@ -10,7 +10,7 @@ use borrow.Author.Tests.{eq-eqb, ne-eqb}
 use lib.Dec.{eqb}
 use lib.ListN.{length, getD}
 use Rattle.slices.specs.Parts.{part}
-use Rattle.slices.proofs.Parts.{length-part, part-cons}
+use Rattle.slices.proofs.Parts.{length-part, part-cons, getD-part}
 use Rattle.utf8.specs.Utf8.{utf8}
 use Rattle.refusal.specs.declared.Refusal.{Refusal}
 use Rattle.refusal.specs.declared.Refusal.the-variants.{InvalidUtf8, DuplicateKey, KeyNotString}
@@ -30,6 +30,15 @@ same-length [] [] h = absurd (h refl)
 same-length [] (y ∷ b) h = refl
 same-length (x ∷ a) [] h = refl
 same-length (x ∷ a) (y ∷ b) h = rw (same-length a b (λ e. h (ap suc e))) (and-false (eqb x y))
+
+-- lists that differ at one place differ
+same-at : (a b : List ℕ) (i : ℕ) → (getD a i 0 ≡ getD b i 0 → ⊥) → same a b ≡ false
+unfolding same
+same-at [] [] i h = absurd (h refl)
+same-at [] (y ∷ b) i h = refl
+same-at (x ∷ a) [] i h = refl
+same-at (x ∷ a) (y ∷ b) zero h = rw (ne-eqb x y h)
+same-at (x ∷ a) (y ∷ b) (suc i) h = rw (same-at a b i h) (and-false (eqb x y))
 
 -- what is left of a part, one element and the rest
 left-cons : (s : List ℕ) (p n i : ℕ) → i < n → p + n ≤ length s → part s (p + i) (n - i) ≡ getD s (p + i) 0 ∷ part s (p + (i + 1)) (n - (i + 1))
@@ -53,6 +62,10 @@ module _ (s : List ℕ) (a b n : ℕ) where
 
   pub other-size : (m : ℕ) → a + m ≤ length s → b + n ≤ length s → (m ≡ n → ⊥) → same (part s a m) (part s b n) ≡ false
   other-size m h l d = same-length (part s a m) (part s b n) (λ e. d (sym (length-part s a m h) ∙ e ∙ length-part s b n l))
+
+  pub last-differs : 0 < n → (getD s (a + (n - 1)) 0 ≡ getD s (b + (n - 1)) 0 → ⊥) → same (part s a n) (part s b n) ≡ false
+  last-differs h d =
+      same-at (part s a n) (part s b n) (n - 1) (λ e. d (sym (getD-part s a n (n - 1) (omega arith)) ∙ e ∙ getD-part s b n (n - 1) (omega arith)))
 
   module _ (i : ℕ) (so-far : Comparing s a b n i) where
     pub all-equal : i ≡ n → same (part s a n) (part s b n) ≡ true

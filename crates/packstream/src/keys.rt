@@ -18,7 +18,7 @@ fn wide(x: u16) -> usize
 }
 
 // Whether one of the `count` contents that the scratch has from `base` on is equal to the `size` bytes from `start` on. The search goes from
-// the latest key back and stops at the first that is equal.
+// the latest key back and stops at the first that is equal. Keys of one size often begin alike, so their last bytes are compared first.
 fn repeats(
     message: &[u8],
     scratch: &[u16],
@@ -36,6 +36,11 @@ fn repeats(
         left -= 1;
         let from = wide(scratch[base + 2 * left]);
         if wide(scratch[base + 2 * left + 1]) == size {
+            if 0 < size {
+                if message[from + (size - 1)] != message[start + (size - 1)] {
+                    continue;
+                }
+            }
             let mut i = 0;
             loop {
                 if i == size {

@@ -10,7 +10,7 @@ use lib.ListN.{length}
 use Rattle.slices.specs.Parts.{part}
 use Rattle.packstream.specs.Decode.{same}
 use Rattle.packstream.specs.Keys.{startOf, sizeOf}
-use Rattle.packstream.proofs.KeySearch.{Comparing, comparing-none, other-size, all-equal, one-equal, one-differs, Searching, none-left, equal-key, other-key, key-inside-at}
+use Rattle.packstream.proofs.KeySearch.{Comparing, comparing-none, other-size, last-differs, all-equal, one-equal, one-differs, Searching, none-left, equal-key, other-key, key-inside-at}
 use Rattle.packstream.proofs.keys.repeats.Statement.{statement}
 use Rattle.packstream.proofs.keys.repeats.Tie as tie
 
@@ -80,17 +80,17 @@ shared-slice-read-wide-2 c = omega arith
 wide-requires-2 : tie.Need-wide-requires-2 Inv-loop μ-loop Inv-search μ-search
 wide-requires-2 c κs = search needs
 
-loop-holds : tie.Need-loop-holds Inv-loop μ-loop Inv-search μ-search
-loop-holds c =
-    let a = c .before .before .before .before .before .before .before .before .before .args in
-    let d = c .before in
-    (omega arith, c .before .before .before .before .before .before .search .inv .1, omega (arith, old-inside d, c .if1 .taken), comparing-none (a .message .now) (d .before .before .wide .result) (a .start) (a .size))
+sub-if3 : tie.Need-sub-if3 Inv-loop μ-loop Inv-search μ-search
+sub-if3 c = omega arith
 
 add-if3 : tie.Need-add-if3 Inv-loop μ-loop Inv-search μ-search
-add-if3 c = omega (arith, c .before .loop .inv .2)
+add-if3 c = omega (arith, old-inside (c .before .before), c .before .if1 .taken)
 
 shared-slice-read-if3 : tie.Need-shared-slice-read-if3 Inv-loop μ-loop Inv-search μ-search
-shared-slice-read-if3 c = omega (arith, c .before .before .loop .inv .2)
+shared-slice-read-if3 c = omega (arith, old-inside (c .before .before .before), c .before .before .if1 .taken)
+
+sub-if3-2 : tie.Need-sub-if3-2 Inv-loop μ-loop Inv-search μ-search
+sub-if3-2 c = omega arith
 
 add-if3-2 : tie.Need-add-if3-2 Inv-loop μ-loop Inv-search μ-search
 add-if3-2 c = omega arith
@@ -103,16 +103,49 @@ search-less c = omega arith
 
 search-again : tie.Need-search-again Inv-loop μ-loop Inv-search μ-search
 search-again c =
-    let a = c .before .before .before .before .before .before .before .before .before .before .before .before .before .before .args in
-    let d = c .before .before .before .before .before .before in
+    let d = c .before .before .before .before .before in
+    let a = d .before .before .before .before .before .before .before .before .args in (
+      omega arith,
+      d .before .before .before .before .before .search .inv .1,
+      other-key (a .message .now) (a .scratch .now) (a .base) (part (a .message .now) (a .start) (a .size)) (a .count) (d .before .before .before .before .before .search .left) (d .before .before .before .before .before .search .inv .2) (d .before .before .before .before .search-test .taken)
+          (ap (λ (x : List ℕ). same x (part (a .message .now) (a .start) (a .size)))
+          (old-is d ∙ ap (part (a .message .now) (d .before .before .wide .result)) (c .before .before .before .before .if1 .taken))
+          ∙ last-differs (a .message .now) (d .before .before .wide .result) (a .start) (a .size) (c .before .before .before .if2 .taken) (c .if3 .taken)),
+    )
+
+loop-holds : tie.Need-loop-holds Inv-loop μ-loop Inv-search μ-search
+loop-holds c =
+    let a = c .before .before .before .before .before .before .before .before .before .before .args in
+    let d = c .before .before in
+    (omega arith, d .before .before .before .before .before .search .inv .1, omega (arith, old-inside d, c .before .if1 .taken), comparing-none (a .message .now) (d .before .before .wide .result) (a .start) (a .size))
+
+add-if5 : tie.Need-add-if5 Inv-loop μ-loop Inv-search μ-search
+add-if5 c = omega (arith, c .before .loop .inv .2)
+
+shared-slice-read-if5 : tie.Need-shared-slice-read-if5 Inv-loop μ-loop Inv-search μ-search
+shared-slice-read-if5 c = omega (arith, c .before .before .loop .inv .2)
+
+add-if5-2 : tie.Need-add-if5-2 Inv-loop μ-loop Inv-search μ-search
+add-if5-2 c = omega arith
+
+shared-slice-read-if5-2 : tie.Need-shared-slice-read-if5-2 Inv-loop μ-loop Inv-search μ-search
+shared-slice-read-if5-2 c = omega arith
+
+search-less-2 : tie.Need-search-less-2 Inv-loop μ-loop Inv-search μ-search
+search-less-2 c = omega arith
+
+search-again-2 : tie.Need-search-again-2 Inv-loop μ-loop Inv-search μ-search
+search-again-2 c =
+    let a = c .before .before .before .before .before .before .before .before .before .before .before .before .before .before .before .args in
+    let d = c .before .before .before .before .before .before .before in
     let l = c .before .before .before .before .loop in
     let differs =
-    one-differs (a .message .now) (d .before .before .wide .result) (a .start) (a .size) (l .i) (l .inv .3) (omega arith) (l .inv .2) (c .before .before .before .before .before .before .before .before .before .before .before .before .before .before .pre .0) (c .if3 .taken) in (
+    one-differs (a .message .now) (d .before .before .wide .result) (a .start) (a .size) (l .i) (l .inv .3) (omega arith) (l .inv .2) (c .before .before .before .before .before .before .before .before .before .before .before .before .before .before .before .pre .0) (c .if5 .taken) in (
       omega arith,
       l .inv .1,
       other-key (a .message .now) (a .scratch .now) (a .base) (part (a .message .now) (a .start) (a .size)) (a .count) (d .before .before .before .before .before .search .left) (d .before .before .before .before .before .search .inv .2) (d .before .before .before .before .search-test .taken)
           (ap (λ (x : List ℕ). same x (part (a .message .now) (a .start) (a .size)))
-          (old-is d ∙ ap (part (a .message .now) (d .before .before .wide .result)) (c .before .before .before .before .before .if1 .taken))
+          (old-is d ∙ ap (part (a .message .now) (d .before .before .wide .result)) (c .before .before .before .before .before .before .if1 .taken))
           ∙ differs),
     )
 
@@ -124,20 +157,20 @@ loop-less c = omega arith
 
 loop-again : tie.Need-loop-again Inv-loop μ-loop Inv-search μ-search
 loop-again c =
-    let a = c .before .before .before .before .before .before .before .before .before .before .before .before .before .before .args in
-    let d = c .before .before .before .before .before .before in
+    let a = c .before .before .before .before .before .before .before .before .before .before .before .before .before .before .before .args in
+    let d = c .before .before .before .before .before .before .before in
     let l = c .before .before .before .before .loop in (
       omega arith,
       l .inv .1,
       l .inv .2,
-      one-equal (a .message .now) (d .before .before .wide .result) (a .start) (a .size) (l .i) (l .inv .3) (omega arith) (l .inv .2) (c .before .before .before .before .before .before .before .before .before .before .before .before .before .before .pre .0) (c .if3 .left),
+      one-equal (a .message .now) (d .before .before .wide .result) (a .start) (a .size) (l .i) (l .inv .3) (omega arith) (l .inv .2) (c .before .before .before .before .before .before .before .before .before .before .before .before .before .before .before .pre .0) (c .if5 .left),
     )
 
-search-less-2 : tie.Need-search-less-2 Inv-loop μ-loop Inv-search μ-search
-search-less-2 c = omega arith
+search-less-3 : tie.Need-search-less-3 Inv-loop μ-loop Inv-search μ-search
+search-less-3 c = omega arith
 
-search-again-2 : tie.Need-search-again-2 Inv-loop μ-loop Inv-search μ-search
-search-again-2 c =
+search-again-3 : tie.Need-search-again-3 Inv-loop μ-loop Inv-search μ-search
+search-again-3 c =
     let a = c .before .before .before .before .before .before .before .before .before .args in
     let d = c .before in (
       omega arith,
@@ -156,12 +189,12 @@ returns c =
 
 returns-2 : tie.Need-returns-2 Inv-loop μ-loop Inv-search μ-search
 returns-2 c =
-    let a = c .before .before .before .before .before .before .before .before .before .before .before .args in
-    let d = c .before .before .before in
+    let a = c .before .before .before .before .before .before .before .before .before .before .before .before .args in
+    let d = c .before .before .before .before in
     let l = c .before .loop in
     sym (equal-key (a .message .now) (a .scratch .now) (a .base) (part (a .message .now) (a .start) (a .size)) (a .count) (d .before .before .before .before .before .search .left) (d .before .before .before .before .before .search .inv .2) (d .before .before .before .before .search-test .taken)
-    (ap (λ (x : List ℕ). same x (part (a .message .now) (a .start) (a .size))) (old-is d ∙ ap (part (a .message .now) (d .before .before .wide .result)) (c .before .before .if1 .taken))
-    ∙ all-equal (a .message .now) (d .before .before .wide .result) (a .start) (a .size) (l .i) (l .inv .3) (c .if2 .taken)))
+    (ap (λ (x : List ℕ). same x (part (a .message .now) (a .start) (a .size))) (old-is d ∙ ap (part (a .message .now) (d .before .before .wide .result)) (c .before .before .before .if1 .taken))
+    ∙ all-equal (a .message .now) (d .before .before .wide .result) (a .start) (a .size) (l .i) (l .inv .3) (c .if4 .taken)))
 
 pub repeats-spec : {M : Type 1} → statement M
 repeats-spec =
@@ -184,17 +217,25 @@ repeats-spec =
     mul-wide-4
     shared-slice-read-wide-2
     wide-requires-2
-    loop-holds
+    sub-if3
     add-if3
     shared-slice-read-if3
+    sub-if3-2
     add-if3-2
     shared-slice-read-if3-2
     search-less
     search-again
+    loop-holds
+    add-if5
+    shared-slice-read-if5
+    add-if5-2
+    shared-slice-read-if5-2
+    search-less-2
+    search-again-2
     add-i
     loop-less
     loop-again
-    search-less-2
-    search-again-2
+    search-less-3
+    search-again-3
     returns
     returns-2)
