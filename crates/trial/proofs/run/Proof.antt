@@ -64,11 +64,7 @@ returns : tie.Need-returns Inv-loop μ-loop
 returns c = search needs
 
 add-start : tie.Need-add-start Inv-loop μ-loop
-add-start c =
-    let g = c .before .before .before .before .before .before .before .before .before .before .before .before .before .before .before .before .before .before in
-    let l = c .before .before .before .before .before .before .before .before .before .before .before .before .before .before in
-    let i = c .before .before .before .before .before .before .before .before .before in
-    omega (arith, i .if1 .taken, l .loop .inv .2, l .loop .inv .4, g .good .0 .1)
+add-start c = omega (arith, c .before .before .before .before .before .before .before .before .before .if1 .taken, c .before .before .before .before .before .before .before .before .before .before .before .before .before .before .loop .inv .2, c .before .before .before .before .before .before .before .before .before .before .before .before .before .before .loop .inv .4, c .before .before .before .before .before .before .before .before .before .before .before .before .before .before .before .before .before .before .good .0 .1)
 
 loop-less : tie.Need-loop-less Inv-loop μ-loop
 loop-less c = search needs
@@ -89,16 +85,10 @@ keep-requires : tie.Need-keep-requires Inv-loop μ-loop
 keep-requires c κs = search needs
 
 sub-read : tie.Need-sub-read Inv-loop μ-loop
-sub-read c =
-    let l = c .before .before .before .before .before .before .before .before .before .before .before .before in
-    let m = c .before .before .before in
-    omega (arith, kept-fits (l .loop .input) (l .loop .start) (m .least .result) (c .before .before .keep .ensures .0))
+sub-read c = omega (arith, kept-fits (c .before .before .before .before .before .before .before .before .before .before .before .before .loop .input) (c .before .before .before .before .before .before .before .before .before .before .before .before .loop .start) (c .before .before .before .least .result) (c .before .before .keep .ensures .0))
 
 part-read-start : tie.Need-part-read-start Inv-loop μ-loop
-part-read-start c =
-    let l = c .before .before .before .before .before .before .before .before .before .before .before .before in
-    let m = c .before .before .before in
-    omega (arith, kept-fits (l .loop .input) (l .loop .start) (m .least .result) (c .before .before .keep .ensures .0))
+part-read-start c = omega (arith, kept-fits (c .before .before .before .before .before .before .before .before .before .before .before .before .loop .input) (c .before .before .before .before .before .before .before .before .before .before .before .before .loop .start) (c .before .before .before .least .result) (c .before .before .keep .ensures .0))
 
 part-read-end : tie.Need-part-read-end Inv-loop μ-loop
 part-read-end c = search needs
@@ -107,18 +97,10 @@ read-requires : tie.Need-read-requires Inv-loop μ-loop
 read-requires c κs = search needs
 
 sub-count : tie.Need-sub-count Inv-loop μ-loop
-sub-count c =
-    let l = c .before .before .before .before .before .before .before .before .before .before .before .before .before .before .before .before in
-    let m = c .before .before .before .before .before .before .before in
-    let k = c .before .before .before .before .before .before in
-    omega (arith, kept-fits (l .loop .input) (l .loop .start) (m .least .result) (k .keep .ensures .0))
+sub-count c = omega (arith, kept-fits (c .before .before .before .before .before .before .before .before .before .before .before .before .before .before .before .before .loop .input) (c .before .before .before .before .before .before .before .before .before .before .before .before .before .before .before .before .loop .start) (c .before .before .before .before .before .before .before .least .result) (c .before .before .before .before .before .before .keep .ensures .0))
 
 part-count-start : tie.Need-part-count-start Inv-loop μ-loop
-part-count-start c =
-    let l = c .before .before .before .before .before .before .before .before .before .before .before .before .before .before .before .before .before in
-    let m = c .before .before .before .before .before .before .before .before in
-    let k = c .before .before .before .before .before .before .before in
-    omega (arith, kept-fits (l .loop .input) (l .loop .start) (m .least .result) (k .keep .ensures .0))
+part-count-start c = omega (arith, kept-fits (c .before .before .before .before .before .before .before .before .before .before .before .before .before .before .before .before .before .loop .input) (c .before .before .before .before .before .before .before .before .before .before .before .before .before .before .before .before .before .loop .start) (c .before .before .before .before .before .before .before .before .least .result) (c .before .before .before .before .before .before .before .keep .ensures .0))
 
 part-count-end : tie.Need-part-count-end Inv-loop μ-loop
 part-count-end c = search needs
@@ -133,11 +115,7 @@ part-run-last-start : tie.Need-part-run-last-start Inv-loop μ-loop
 part-run-last-start c = search needs
 
 part-run-last-end : tie.Need-part-run-last-end Inv-loop μ-loop
-part-run-last-end c =
-    let l = c .before .before .before .before .before .before .before .before .before .before .before .before .before .before .before .before .before .before .before .before .before in
-    let m = c .before .before .before .before .before .before .before .before .before .before .before .before in
-    let k = c .before .before .before .before .before .before .before .before .before .before .before in
-    omega (arith, kept-fits (l .loop .input) (l .loop .start) (m .least .result) (k .keep .ensures .0))
+part-run-last-end c = omega (arith, kept-fits (c .before .before .before .before .before .before .before .before .before .before .before .before .before .before .before .before .before .before .before .before .before .loop .input) (c .before .before .before .before .before .before .before .before .before .before .before .before .before .before .before .before .before .before .before .before .before .loop .start) (c .before .before .before .before .before .before .before .before .before .before .before .before .least .result) (c .before .before .before .before .before .before .before .before .before .before .before .keep .ensures .0))
 
 run-last-requires : tie.Need-run-last-requires Inv-loop μ-loop
 run-last-requires c κs = search needs

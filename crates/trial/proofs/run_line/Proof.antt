@@ -26,17 +26,13 @@ enum-known-answer : tie.Need-enum-known-answer
 enum-known-answer c = search needs
 
 add-t18 : tie.Need-add-t18
-add-t18 c =
-    let h = c .before .before .before .before .before .before in
-    omega (arith, told-fits _ _ _ (sym (ap told (c .before .answer .given .1)) ∙ h .handle .ensures .0))
+add-t18 c = omega (arith, told-fits _ _ _ (sym (ap told (c .before .answer .given .1)) ∙ c .before .before .before .before .before .before .handle .ensures .0))
 
 enum-known-answer-2 : tie.Need-enum-known-answer-2
 enum-known-answer-2 c = search needs
 
 add-t19 : tie.Need-add-t19
-add-t19 c =
-    let h = c .before .before .before .before .before .before in
-    omega (arith, told-fits _ _ _ (sym (ap told (c .before .answer2 .given .1)) ∙ h .handle .ensures .0))
+add-t19 c = omega (arith, told-fits _ _ _ (sym (ap told (c .before .answer2 .given .1)) ∙ c .before .before .before .before .before .before .handle .ensures .0))
 
 enum-told : tie.Need-enum-told
 enum-told c = search needs
@@ -45,17 +41,13 @@ same-length : tie.Need-same-length
 same-length c = search needs
 
 returns : tie.Need-returns
-returns c =
-    let h = c .before .before .before .before .before .before in
-    omega (arith, told-fits _ _ _ (sym (ap told (c .before .answer .given .1)) ∙ h .handle .ensures .0))
+returns c = omega (arith, told-fits _ _ _ (sym (ap told (c .before .answer .given .1)) ∙ c .before .before .before .before .before .before .handle .ensures .0))
 
 same-length-2 : tie.Need-same-length-2
 same-length-2 c = search needs
 
 returns-2 : tie.Need-returns-2
-returns-2 c =
-    let h = c .before .before .before .before .before .before in
-    omega (arith, told-fits _ _ _ (sym (ap told (c .before .answer2 .given .1)) ∙ h .handle .ensures .0))
+returns-2 c = omega (arith, told-fits _ _ _ (sym (ap told (c .before .answer2 .given .1)) ∙ c .before .before .before .before .before .before .handle .ensures .0))
 
 same-length-3 : tie.Need-same-length-3
 same-length-3 c = search needs
