@@ -3,6 +3,7 @@ ghost use mathlib.Core.Path.{_≡_};
 ghost use Prim.Native.Nat.{_≤_};
 ghost use lib.ListN.{length};
 ghost use Rattle.vectors.specs.Reply.{longest};
+use crate::in_place;
 use crate::packing;
 use crate::record;
 use crate::reply;
@@ -120,7 +121,7 @@ pub fn arrive(operands: &[u8], reply: &mut [u8], connection: Connection) -> Perf
     if operands.len() != record::request_size(operands, 0) {
         return no_call(connection, reply);
     }
-    let after = connection::arrive::arrive(connection, record::request_at(operands, 0));
+    let after = in_place::arrive(connection, record::request_at(operands, 0));
     let answer = after.answer;
     let next = after.connection;
     done(next, arrival(answer, reply))
@@ -133,7 +134,7 @@ pub fn take(operands: &[u8], reply: &mut [u8], connection: Connection) -> Perfor
     if 0 < operands.len() {
         return no_call(connection, reply);
     }
-    let after = connection::take::take(connection);
+    let after = in_place::take(connection);
     let answer = after.answer;
     let next = after.connection;
     done(next, taken(answer, reply))
@@ -149,7 +150,7 @@ pub fn report(operands: &[u8], reply: &mut [u8], connection: Connection) -> Perf
     if 2 < operands[0] {
         return no_call(connection, reply);
     }
-    let after = connection::report::report(connection, outcome_of(operands[0]));
+    let after = in_place::report(connection, outcome_of(operands[0]));
     let answer = after.answer;
     let next = after.connection;
     done(next, reported(answer, reply))
@@ -161,7 +162,7 @@ pub fn close(operands: &[u8], reply: &mut [u8], connection: Connection) -> Perfo
     if 0 < operands.len() {
         return no_call(connection, reply);
     }
-    let after = connection::close::close(connection);
+    let after = in_place::close(connection);
     let answer = after.answer;
     let next = after.connection;
     done(next, closing(answer, reply))

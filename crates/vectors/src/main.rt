@@ -21,6 +21,7 @@
 // A refusal is FF, its number (1), its place (4). A line that is no vector gives FE. A request is its tag (1) and, for DISCARD and PULL,
 // n (8) and qid (8). Operations 10 to 16 work on one record, which is fresh at first.
 mod calls;
+mod in_place;
 mod operands;
 mod operations;
 mod packing;
