@@ -44,7 +44,7 @@ use Rattle.connection.specs.declared.answers.Arrival.{Arrival}
 use Rattle.connection.specs.declared.answers.AfterArrive.{AfterArrive}
 use Rattle.connection.specs.Answers.{toldArrival}
 use Rattle.connection.specs.Record.{toldArrive, arriveOf}
-use Rattle.vectors.proofs.Lending.{vals, lies-in}
+use Rattle.connection_in_place.proofs.Lending.{vals, lies-in}
 use Rattle.connection.proofs.record.Connection as T
 use Rattle.connection.proofs.record.Connection.Laws as T′
 use Rattle.connection.proofs.record.Request as R

@@ -43,7 +43,7 @@ use Rattle.connection.specs.declared.answers.Closing.{Closing}
 use Rattle.connection.specs.declared.answers.AfterClose.{AfterClose}
 use Rattle.connection.specs.Answers.{toldClosing}
 use Rattle.connection.specs.Record.{toldClose, closeOf}
-use Rattle.vectors.proofs.Lending.{vals, lies-in}
+use Rattle.connection_in_place.proofs.Lending.{vals, lies-in}
 use Rattle.connection.proofs.record.Connection as T
 use Rattle.connection.proofs.record.Connection.Laws as T′
 use Rattle.connection.proofs.answers.AfterClose as U

@@ -44,7 +44,7 @@ use Rattle.connection.specs.declared.answers.Reported.{Reported}
 use Rattle.connection.specs.declared.answers.AfterReport.{AfterReport}
 use Rattle.connection.specs.Answers.{toldReported}
 use Rattle.connection.specs.Record.{toldReport, reportOf}
-use Rattle.vectors.proofs.Lending.{vals, lies-in}
+use Rattle.connection_in_place.proofs.Lending.{vals, lies-in}
 use Rattle.connection.proofs.record.Connection as T
 use Rattle.connection.proofs.record.Connection.Laws as T′
 use Rattle.connection.proofs.answers.Outcome as R

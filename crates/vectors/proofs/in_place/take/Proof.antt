@@ -43,7 +43,7 @@ use Rattle.connection.specs.declared.answers.Taken.{Taken}
 use Rattle.connection.specs.declared.answers.AfterTake.{AfterTake}
 use Rattle.connection.specs.Answers.{toldTaken}
 use Rattle.connection.specs.Record.{toldTake, takeOf}
-use Rattle.vectors.proofs.Lending.{vals, lies-in}
+use Rattle.connection_in_place.proofs.Lending.{vals, lies-in}
 use Rattle.connection.proofs.record.Connection as T
 use Rattle.connection.proofs.record.Connection.Laws as T′
 use Rattle.connection.proofs.answers.AfterTake as U
