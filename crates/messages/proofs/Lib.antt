@@ -8,5 +8,6 @@ pub mod Trees
 pub mod Lookups
 pub mod Fields
 pub mod Roots
+pub mod Places
 pub mod Summaries
 pub mod SummaryForms

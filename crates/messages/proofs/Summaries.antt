@@ -15,7 +15,7 @@ use Rattle.slices.proofs.Parts.{reaches-yes, reaches-le, sets-append, fits-yes}
 use Rattle.numbers.specs.BigEndian.{bytesOf}
 use Rattle.numbers.specs.TwosComplement.{fitsIn}
 use Rattle.numbers.proofs.Access.{failed, passed}
-use Rattle.refusal.specs.Answer.{Answer, result}
+use Rattle.refusal.specs.Answer.{result}
 use Rattle.refusal.specs.declared.Refusal.the-variants.{NoRoom}
 use Rattle.packstream.specs.Value.{count, countEntries}
 use Rattle.packstream.specs.Packing.{isTiny, packInteger, pack, packItems, packEntries, sizeHeader, narrowest, doublings}

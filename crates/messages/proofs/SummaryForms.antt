@@ -1,30 +1,26 @@
 -- Why a summary's bytes say what they say: the laws of packed values at its Structure. Assumes nothing.
-use Prim.Native.Nat.{ℕ, _+_, _^_, _≤_, _<_}
+use Prim.Native.Nat.{ℕ, _^_, _≤_}
 use mathlib.Core.Path.{_≡_, refl, sym, ap, _∙_}
-use mathlib.Core.Bool.{Bool, true, false, cond}
-use mathlib.Core.List.{List}
+use mathlib.Core.Bool.{true, cond}
 use native.Mathlib.Omega.{arith}
 use lib.Count.{leadingZeros}
-use lib.Dec.{ltb, eqb}
-use lib.IntN.{ℤ, pos, negsuc}
+use lib.Dec.{eqb}
+use lib.IntN.{pos, negsuc}
 use lib.ListN.{length}
 use borrow.Author.Tests.{ltb-true}
-use Rattle.numbers.specs.BigEndian.{Bytes}
-use Rattle.numbers.specs.TwosComplement.{fitsIn}
 use Rattle.numbers.proofs.TwosComplement.{fits-yes}
 use Rattle.utf8.specs.Utf8.{utf8, sequencesFrom, sequence, completes}
-use Rattle.refusal.specs.Answer.{result}
 use Rattle.packstream.specs.Value.{Value, null, boolean, integer, float, bytes, string, list, dictionary, structure, Items, no-items, item, Entries, no-entries, entry, count, countEntries, forget, relocate, relocateItems, relocateEntries}
-use Rattle.packstream.specs.Decode.{mostOpen, mostBytes, same, repeats}
+use Rattle.packstream.specs.Decode.{mostOpen, same, repeats}
 use Rattle.packstream.specs.Packing.{packInteger}
-use Rattle.packstream.specs.RoundTrip.{packable, packableItems, packableEntries, located}
+use Rattle.packstream.specs.RoundTrip.{packable, packableItems, packableEntries}
 use Rattle.packstream.proofs.RoundTrip.{round-trip}
 use Rattle.packstream.proofs.Shortest.{shortest}
 use Rattle.connection.specs.declared.answers.Failure.{Failure}
 use Rattle.connection.specs.declared.answers.Failure.the-variants as F
 use Rattle.connection.specs.declared.answers.Summary.{Summary}
 use Rattle.connection.specs.declared.answers.Summary.the-variants as S
-use Rattle.messages.specs.Summaries.{textOf, structureOf, packSummary}
+use Rattle.messages.specs.Summaries.{structureOf, packSummary}
 use Rattle.messages.specs.SummaryForms.{isNumbered, SummaryForm}
 use Rattle.messages.proofs.Summaries.{ignored-form, success-form, has-more-size, integer-behind, stream-size, failure-form}
 

@@ -1,11 +1,9 @@
 -- Summaries as the client reads them: document 01, "Connection record", "Summaries"; 000, "SUCCESS", "FAILURE" and "IGNORED". Assumes nothing.
 use Prim.Native.Nat.{ℕ}
-use mathlib.Core.Bool.{Bool}
 use mathlib.Core.List.{List, [], _∷_}
 use lib.IntN.{pos}
-use Rattle.refusal.specs.Answer.{Answer, result}
-use Rattle.packstream.specs.Value.{Value, boolean, integer, string, dictionary, structure, Items, no-items, item, Entries, no-entries, entry}
-use Rattle.packstream.specs.Packing.{pack, fitted}
+use Rattle.packstream.specs.Value.{Value, boolean, integer, string, dictionary, structure, no-items, item, Entries, no-entries, entry}
+use Rattle.packstream.specs.Packing.{pack}
 use Rattle.connection.specs.declared.answers.Failure.{Failure}
 use Rattle.connection.specs.declared.answers.Failure.the-variants as F
 use Rattle.connection.specs.declared.answers.Summary.{Summary}

@@ -16,8 +16,7 @@ use Rattle.packstream.specs.RoundTrip.{located}
 use Rattle.connection.specs.declared.answers.Failure.the-variants as F
 use Rattle.connection.specs.declared.answers.Summary.{Summary}
 use Rattle.connection.specs.declared.answers.Summary.the-variants as S
-use Rattle.messages.specs.Names.{qid}
-use Rattle.messages.specs.Summaries.{has-more, code, message, textOf, structureOf, packSummary}
+use Rattle.messages.specs.Summaries.{code, message, textOf, structureOf, packSummary}
 
 -- the number of a stream is a u32
 abbrev pub isNumbered : Summary → Bool

@@ -5,6 +5,7 @@ pub mod KeySearch
 pub mod Scratch
 pub mod Steps
 pub mod Answers
+pub mod Places
 pub mod Passing
 pub mod Packing
 pub mod Here

@@ -1,5 +1,5 @@
 -- `messages::arrival::arrival_of` meets its contract. Assumes nothing.
-use mathlib.Core.Path.{_≡_, sym, ap, _∙_}
+use mathlib.Core.Path.{sym, ap}
 use mir.Facts.{toZ-ofZ}
 use borrow.Author.Needs.{sfits-of}
 use Rattle.messages.specs.Arrivals.{arrivalOf}
