@@ -10,7 +10,6 @@ use lib.ListN.{length, length-append}
 use lib.Seq.{length-sets}
 use borrow.Author.Tests.{leb-false}
 use Rattle.refusal.specs.Answer.{Answer, result, refused}
-use Rattle.connection.specs.declared.record.State.{State}
 use Rattle.connection.specs.declared.record.State.the-variants.{Connected, Interrupted, Defunct}
 use Rattle.connection.specs.declared.record.Request.{Request}
 use Rattle.connection.specs.declared.record.Connection.{Connection}
@@ -20,13 +19,13 @@ use Rattle.connection.specs.declared.turn.Turn.the-variants as U
 use Rattle.connection.specs.Requests.{RESET, kindOf, inState, is, inRange}
 use Rattle.connection.specs.Appendix.{newState}
 use Rattle.connection.specs.Table as T
-use Rattle.connection.specs.Table.{Open, Table, Said, Done, takeT, takeFirst, taken, turnOf as turnIn, arriveT, accept, reportT, reportFirst, reported, settled, streamsAfter, response, fitting}
-use Rattle.connection.specs.Record.{After, kept, put, slot, joined, keepsRules, carried, arriveOf, takeOf, reportOf}
+use Rattle.connection.specs.Table.{Table, Said, Done, takeT, takeFirst, taken, turnOf as turnIn, arriveT, accept, reportT, reportFirst, reported, streamsAfter, response}
+use Rattle.connection.specs.Record.{After, kept, put, slot, keepsRules, carried, arriveOf, takeOf, reportOf}
 use Rattle.connection.proofs.Bools.{by-test}
 use Rattle.connection.proofs.Calls.{fits, few}
 use Rattle.connection.proofs.Keeping.{put-own}
 use Rattle.connection.proofs.Waiting.{front-length}
-use Rattle.session.specs.Serving.{End, idle, Serving, stopped, sending, succeeding, turnOf, following, serving, turns, served}
+use Rattle.session.specs.Serving.{End, idle, Serving, succeeding, turnOf, following, serving, turns, served}
 use Rattle.session.specs.Idle.{Idle}
 
 -- ---- the table

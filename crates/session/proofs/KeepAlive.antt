@@ -1,25 +1,23 @@
 -- A keep-alive changes nothing: the theorem `keep-alives`. Assumes nothing.
 use Prim.Native.Nat.{ℕ}
-use mathlib.Core.Bool.{Bool, true, false, cond}
+use mathlib.Core.Bool.{Bool, true, cond}
 use mathlib.Core.List.{List, []}
 use mathlib.Core.Path.{_≡_, refl, sym, ap, _∙_}
 use native.Mathlib.Omega.{arith}
-use lib.Dec.{ltb}
 use lib.ListN.{length}
 use borrow.Author.Tests.{le-ltb}
-use Rattle.refusal.specs.Answer.{Answer, result}
+use Rattle.refusal.specs.Answer.{result}
 use Rattle.numbers.specs.BigEndian.{bigEndian}
 use Rattle.hex.specs.Hex.{isLine, allDigits, isDigit, toBytes, valueOf}
 use Rattle.handshake.specs.declared.version.Version.{Version}
 use Rattle.handshake.specs.Version.{keepsAlive}
-use Rattle.framing.specs.Feed.{Reading, keep-alive, most, feed}
+use Rattle.framing.specs.Feed.{keep-alive, most, feed}
 use Rattle.framing.specs.Reading.{frameOf}
 use Rattle.session.specs.declared.phase.Phase.{Phase}
 use Rattle.session.specs.declared.phase.Phase.the-variants.{Open}
 use Rattle.session.specs.declared.phase.Session.{Session}
-use Rattle.session.specs.Serving.{stopped, idle}
 use Rattle.session.specs.Receiving.{Brought, nothing, refusal, framed, broughtIn}
-use Rattle.session.specs.Session.{Next, replying, answering, inPhase, nextOf}
+use Rattle.session.specs.Session.{replying, answering, inPhase, nextOf}
 use Rattle.session.specs.KeepAlive.{KeepAlive, unmoved, empty}
 
 module _ (s : Session) (v : Version) (begun : s .phase ≡ Open v) where

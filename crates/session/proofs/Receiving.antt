@@ -1,26 +1,25 @@
 -- Laws of what a line brings: the bytes of a line, the handshake and the frame among them, and any room for the message. Assumes nothing.
 use mathlib.Core.Path.{_≡_, refl, sym, ap, _∙_}
 use mathlib.Core.Logic.{_⊎_, inl, inr}
-use mathlib.Core.Bool.{Bool, true, false, cond, true≢false, and-eq-true-iff}
-use mathlib.Core.List.{List, [], _∷_, _++_}
-use Prim.Native.Nat.{ℕ, _+_, _-_, _/_, _≤_, _<_}
+use mathlib.Core.Bool.{Bool, true, false, cond, and-eq-true-iff}
+use mathlib.Core.List.{List}
+use Prim.Native.Nat.{ℕ, _-_, _/_, _≤_, _<_}
 use native.Mathlib.Omega.{arith}
-use lib.Dec.{eqb, ltb, leb}
+use lib.Dec.{ltb, leb}
 use lib.ListN.{length, take, drop}
 use lib.Seq.{take-at}
-use borrow.Author.Tests.{ltb-true, ltb-false, lt-ltb, le-ltb, leb-true}
+use borrow.Author.Tests.{lt-ltb, le-ltb, leb-true}
 use Rattle.slices.specs.Parts.{front}
 use Rattle.refusal.specs.Answer.{Answer, result, refused, counted, left}
-use Rattle.hex.specs.Hex.{isLine, allDigits, toBytes, into, decoding}
-use Rattle.hex.proofs.Lines.{clash, no-line, read, line-long, length-bytes}
-use Rattle.handshake.specs.declared.version.Version.{Version}
+use Rattle.hex.specs.Hex.{isLine, toBytes, decoding}
+use Rattle.hex.proofs.Lines.{clash, no-line, read, line-long}
 use Rattle.handshake.specs.Version.{keepsAlive}
 use Rattle.handshake.specs.Negotiation.{negotiated}
 use Rattle.framing.specs.Feed.{Reading, message, keep-alive, most}
 use Rattle.framing.specs.Reading.{frameOf, message-of, keep-alive-of, telling, leaves}
 use Rattle.packstream.specs.Decode.{decode}
 use Rattle.messages.specs.Requests.{requestOf}
-use Rattle.session.specs.Receiving.{alone, handshakeIn, Brought, nothing, request, refusal, arriving, inFrame, framed, broughtIn}
+use Rattle.session.specs.Receiving.{alone, handshakeIn, Brought, nothing, refusal, arriving, inFrame, framed, broughtIn}
 use Rattle.framing.proofs.Rooms.{frame-alike}
 
 -- a part from the start on, as slices are lent

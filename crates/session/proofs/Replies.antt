@@ -1,9 +1,9 @@
 -- Laws of replies: what the handshake sends, and which answer is given. Assumes nothing.
-use mathlib.Core.Path.{_≡_, refl, sym, ap, _∙_}
+use mathlib.Core.Path.{_≡_, sym, ap, _∙_}
 use mathlib.Core.Bool.{Bool, true, false, cond}
 use mathlib.Core.List.{List, [], _∷_}
 use Prim.Native.Nat.{ℕ, _≤_, _<_}
-use lib.Dec.{eqb, ltb}
+use lib.Dec.{ltb}
 use lib.ListN.{length}
 use borrow.Author.Tests.{lt-ltb, le-ltb, eq-eqb, ne-eqb}
 use Rattle.slices.specs.Parts.{front}
@@ -19,10 +19,10 @@ use Rattle.session.specs.declared.reply.Opening.{Opening}
 use Rattle.session.specs.declared.reply.Opening.the-variants as O
 use Rattle.session.specs.declared.reply.Reply.{Reply}
 use Rattle.session.specs.declared.serve.Served.{Served}
-use Rattle.session.specs.Serving.{Serving, stopped, idle, refusing, endOf, servedBy}
-use Rattle.session.specs.Receiving.{Brought, handshakeIn, broughtIn}
+use Rattle.session.specs.Serving.{stopped, idle, refusing, endOf, servedBy}
+use Rattle.session.specs.Receiving.{handshakeIn, broughtIn}
 use Rattle.session.specs.declared.line.Handled.the-variants as H
-use Rattle.session.specs.Session.{Next, isIdle, replying, zeros, greeting, answering, inPhase, nextOf, written, handling, Told, telling, told, goingOn, putting, openingLines, replied}
+use Rattle.session.specs.Session.{Next, isIdle, replying, zeros, greeting, answering, inPhase, nextOf, written, handling, telling, told, goingOn, putting, openingLines, replied}
 
 -- ---- the handshake
 -- four zeros are sent where nothing is in common, and only there

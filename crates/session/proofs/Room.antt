@@ -1,20 +1,18 @@
 -- How much room is enough for any line: the theorem `room`. Assumes nothing.
-use mathlib.Core.Path.{_≡_, refl, sym, ap, _∙_}
+use mathlib.Core.Path.{_≡_, ap}
 use mathlib.Core.Bool.{Bool, true, false, cond}
 use mathlib.Core.List.{List, [], _∷_, _++_, map}
 use Prim.Native.Nat.{ℕ, zero, suc, _+_, _*_, _≤_}
 use native.Mathlib.Omega.{arith}
-use lib.Dec.{eqb, ltb}
+use lib.Dec.{eqb}
 use lib.ListN.{length, length-append}
 use borrow.Author.Tests.{le-ltb}
 use Rattle.refusal.specs.Answer.{Answer, result, refused}
 use Rattle.handshake.specs.Version.{bytesOf}
 use Rattle.framing.specs.Feed.{most}
-use Rattle.messages.specs.Summaries.{packSummary}
 use Rattle.messages.proofs.SummaryForms.{sized}
 use Rattle.connection.specs.declared.answers.Summary.{Summary}
 use Rattle.connection.specs.declared.record.Connection.{Connection}
-use Rattle.connection.specs.declared.record.Request.{Request}
 use Rattle.connection.specs.Table as T
 use Rattle.connection.specs.Table.{Said}
 use Rattle.connection.specs.Record.{arriveOf}
@@ -25,7 +23,7 @@ use Rattle.session.specs.Text.{lineText, text}
 use Rattle.session.specs.Serving.{End, idle, Serving, turnOf, following, serving, turns, served}
 use Rattle.session.specs.Receiving as Brought
 use Rattle.session.specs.Receiving.{handshakeIn, broughtIn}
-use Rattle.session.specs.Session.{Next, summaryLine, endLines, replying, zeros, greeting, answering, inPhase, nextOf, written, handling}
+use Rattle.session.specs.Session.{summaryLine, endLines, replying, zeros, greeting, answering, inPhase, nextOf, written, handling}
 use Rattle.session.specs.Room.{enough, Room}
 use Rattle.session.proofs.Writing.{text-append, length-one, length-none, summary-length}
 

@@ -1,6 +1,6 @@
 -- Laws of serving: what the calls answered, in the meaning's terms, and one turn more. Assumes nothing.
 use mathlib.Core.Path.{_≡_, refl, sym, ap, _∙_}
-use mathlib.Core.Bool.{Bool, true, false, cond, _&&_, and-false}
+use mathlib.Core.Bool.{Bool, cond, _&&_, and-false}
 use mathlib.Core.List.{List, [], _∷_, _++_, map, append-assoc, append-nil}
 use Prim.Native.Nat.{ℕ, suc, _+_, _-_, _≤_, _<_}
 use native.Mathlib.Numerals.{add-one}
@@ -25,8 +25,7 @@ use Rattle.connection.specs.Answers.{toldArrival, toldTaken, toldReported}
 use Rattle.connection.specs.Record.{After, arriveOf, takeOf, closeOf, toldArrive, toldTake, toldReport, toldClose}
 use Rattle.session.specs.declared.serve.Sent.{Sent}
 use Rattle.session.specs.declared.serve.Ending.{Ending}
-use Rattle.session.specs.declared.serve.Served.{Served}
-use Rattle.session.specs.Serving.{End, idle, Serving, stopped, sending, closesAfter, afterRefusal, refusing, succeeding, turnOf, following, followed, serving, turns, served, endOf, summaryIn, servedBy}
+use Rattle.session.specs.Serving.{End, idle, Serving, stopped, afterRefusal, succeeding, turnOf, following, followed, serving, turns, served, endOf, summaryIn, servedBy}
 
 -- ---- after a refusal
 module _ (number : ℕ) (c : Connection) where

@@ -1,7 +1,6 @@
 // One more line of a session: what it leads to is decided first, then written as lines, whole or not at all.
 ghost use mathlib.Core.Path.{_≡_};
 ghost use lib.ListN.{length};
-ghost use Rattle.slices.specs.Parts.{front};
 ghost use Rattle.refusal.specs.Answer.{left};
 ghost use Rattle.session.specs.Session.{handling, telling, told, goingOn, putting};
 use super::phase::Session;

@@ -15,7 +15,6 @@ use super::serve::Sent;
 use connection::answers::Summary;
 use framing::writer;
 use framing::writer::Written;
-use hex::Encoded;
 use messages::summary;
 use packstream::pack::Packed;
 
