@@ -8,16 +8,19 @@ use borrow.Author.Tests.{lt-ltb, le-ltb, ltb-true, ltb-false, eq-eqb, ne-eqb, eq
 use lib.Dec.{ltb, eqb}
 use lib.ListN.{length}
 use Rattle.refusal.specs.Answer.{Answer, result, refused}
+use Rattle.refusal.specs.Numbers.{numberOf}
+use Rattle.refusal.specs.declared.Refusal.{Refusal}
 use Rattle.refusal.specs.declared.Refusal.the-variants.{TooLong, TrailingBytes}
 use Rattle.packstream.specs.Value.{Value}
 use Rattle.packstream.specs.Decode.{Parse, parsed, failed, valueAt, valueIn, whole, messageOf, answerOf, decode, mostBytes, mostOpen}
-use Rattle.packstream.specs.Reading.{readingOf, Found, foundAt, told, tellMessage, tellValue}
+use Rattle.packstream.specs.Reading.{headOf, stepOf, Found, foundAt, told, tellMessage, tellValue}
+use Rattle.packstream.specs.Walk.{peekAt}
 use Rattle.packstream.specs.Placement.{Reads}
 use Rattle.packstream.specs.declared.read.Head.{Head}
-
-pub told-reading : (g : Parse Value) → told (readingOf g) ≡ tellValue g
-told-reading (parsed v end) = refl
-told-reading (failed why place) = refl
+use Rattle.packstream.specs.declared.value.Step.the-variants as S
+use Rattle.packstream.specs.declared.walk.Peeked.the-variants as P
+use Rattle.packstream.proofs.Steps.{step-to, step-refused}
+use Rattle.packstream.proofs.Placement.{placement}
 
 -- a message that is too long, and one that is not
 module _ (s : List ℕ) (depth at : ℕ) where
@@ -29,10 +32,29 @@ module _ (s : List ℕ) (depth at : ℕ) where
   unfolding valueIn
   value-not-long h = rw (le-ltb mostBytes (length s) h)
 
--- ---- from the value at offset 0 to the message
 clash : _≡_ {A = ℕ} 0 1 → ⊥
 clash e = omega arith
 
+-- ---- a value that was read through: its head is found where it lies
+module _ (s : List ℕ) (depth at : ℕ) where
+  module _ (room : depth ≤ mostOpen) (end : ℕ) (e : S.To end ≡ stepOf (valueAt s depth at)) where
+    pub read-head : (head : Head) → P.Value head ≡ peekAt s at → result (record { head = head; end = end }) ≡ tellValue (valueAt s depth at)
+    read-head head f =
+        let r = step-to (valueAt s depth at) end e in
+        let h : head ≡ headOf (r .0) end = cc (f ∙ sym (placement s depth at room (r .0) end (r .1) .peeked)) in
+        rw (r .1, h)
+
+    pub read-no-head : P.Nothing ≡ peekAt s at → ⊥
+    read-no-head f =
+        let r = step-to (valueAt s depth at) end e in
+        let z : _≡_ {A = ℕ} 0 1 = cc (f ∙ sym (placement s depth at room (r .0) end (r .1) .peeked)) in
+        clash z
+
+  pub read-stopped : (why : Refusal) (place : ℕ) → S.Refused why place ≡ stepOf (valueAt s depth at)
+      → refused (numberOf why) place ≡ tellValue (valueAt s depth at)
+  read-stopped why place e = rw (step-refused (valueAt s depth at) why place e)
+
+-- ---- from the value at offset 0 to the message
 ends : (v : Value) (h : Head) (p q : ℕ) → result (record { head = h; end = q }) ≡ result (foundAt p v) → p ≡ q
 ends v h p q e =
     let f : _≡_ {A = Found} (record { head = h; end = q }) (foundAt p v) = cc e in sym (ap (λ (x : Found). x .end) f)

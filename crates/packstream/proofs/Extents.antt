@@ -21,7 +21,7 @@ use Rattle.numbers.proofs.Access.{unsigned-found, lies-lt}
 use Rattle.numbers.proofs.BigEndian.{pow256-mono}
 use Rattle.refusal.specs.declared.Refusal.{Refusal}
 use Rattle.refusal.specs.declared.Refusal.the-variants.{ValueTruncated, ReservedMarker, TooDeep, KeyNotString}
-use Rattle.packstream.specs.Marker.{markerOf, isString, hasSize}
+use Rattle.packstream.specs.Marker.{itself, small, markerOf, isString, hasSize}
 use Rattle.packstream.specs.Decode.{sizeAt, onSize, leafExtent, containerExtent, kindExtent, extentAt, keyKindExtent, keyExtentAt}
 use Rattle.packstream.specs.declared.marker.Leaf.{Leaf}
 use Rattle.packstream.specs.declared.marker.Leaf.the-variants as L
@@ -100,6 +100,21 @@ module _ (s : List ℕ) (at : ℕ) (m : Marker) where
     unfolding containerExtent
     container-there n e = ap (λ (u : Unsigned). onSize at u (λ n. E.Container k (at + m .skip + m .width) n)) e
 
+-- a leaf whose marker alone tells its size: a small String, and a small Integer
+module _ (s : List ℕ) (at : ℕ) where
+  pub string-short : (n : ℕ) → length s < at + 1 + n → E.Refused ValueTruncated at ≡ leafExtent s at L.String (small (K.Leaf L.String) n)
+  string-short n h = leaf-short s at (small (K.Leaf L.String) n) L.String n refl (omega arith)
+
+  pub string-there : (n : ℕ) → at + 1 + n ≤ length s → E.Leaf L.String (at + 1) n ≡ leafExtent s at L.String (small (K.Leaf L.String) n)
+  string-there n h =
+      let p : at + 1 + 0 ≡ at + 1 = omega arith in
+      rw p at (leaf-there s at (small (K.Leaf L.String) n) L.String n refl (omega arith))
+
+  pub integer-there : at < length s → E.Leaf L.Integer at 1 ≡ leafExtent s at L.Integer (itself L.Integer 0)
+  integer-there h =
+      let p : at + 0 + 0 ≡ at = omega arith in
+      rw p at (leaf-there s at (itself L.Integer 0) L.Integer 1 refl (omega arith))
+
 -- ---- by the marker's kind
 module _ (s : List ℕ) (at : ℕ) where
   -- no marker
@@ -120,6 +135,34 @@ module _ (s : List ℕ) (at : ℕ) where
     pub by-key-kind : (k : Kind) → k ≡ m .kind → keyKindExtent s at m k ≡ keyExtentAt s at
     unfolding keyExtentAt
     by-key-kind k f = rw (lt-ltb at (length s) h, f, e)
+
+    -- where b holds a key is wanted, else a value
+    module _ (depth : ℕ) where
+      pub reserved-wanted : (b : Bool) → K.Reserved ≡ m .kind → E.Refused ReservedMarker at ≡ cond b (keyExtentAt s at) (extentAt s depth at)
+      reserved-wanted true f = by-key-kind K.Reserved f
+      reserved-wanted false f = by-kind depth K.Reserved f
+
+      module _ (k : Leaf) (f : K.Leaf k ≡ m .kind) where
+        pub leaf-unwanted : (b : Bool) → cond b (isString k) true ≡ false → E.Refused KeyNotString at ≡ cond b (keyExtentAt s at) (extentAt s depth at)
+        leaf-unwanted true g = simp g at (by-key-kind (K.Leaf k) f)
+        leaf-unwanted false g = absurd (false≢true (sym g))
+
+        pub leaf-wanted : (b : Bool) → cond b (isString k) true ≡ true → leafExtent s at k m ≡ cond b (keyExtentAt s at) (extentAt s depth at)
+        leaf-wanted true g = simp g at (by-key-kind (K.Leaf k) f)
+        leaf-wanted false g = by-kind depth (K.Leaf k) f
+
+      module _ (k : Container) (f : K.Container k ≡ m .kind) where
+        pub container-unwanted : (b : Bool) → b ≡ true → E.Refused KeyNotString at ≡ cond b (keyExtentAt s at) (extentAt s depth at)
+        container-unwanted true g = by-key-kind (K.Container k) f
+        container-unwanted false g = absurd (false≢true g)
+
+        pub container-too-deep : (b : Bool) → b ≡ false → depth ≡ 0 → E.Refused TooDeep at ≡ cond b (keyExtentAt s at) (extentAt s depth at)
+        container-too-deep true g d = absurd (false≢true (sym g))
+        container-too-deep false g d = simp (eq-eqb depth 0 d) at (by-kind depth (K.Container k) f)
+
+        pub container-wanted : (b : Bool) → b ≡ false → (depth ≡ 0 → ⊥) → containerExtent s at k m ≡ cond b (keyExtentAt s at) (extentAt s depth at)
+        container-wanted true g d = absurd (false≢true (sym g))
+        container-wanted false g d = simp (ne-eqb depth 0 d) at (by-kind depth (K.Container k) f)
 
 -- ---- what holds of every extent: it lies inside the message and past its marker, and a leaf's size is one that its kind has
 pub record LeafInside (s : List ℕ) (at : ℕ) (k : Leaf) (p n : ℕ) : Type 0 where

@@ -93,6 +93,14 @@ unfolding tabulate markerOf lookup
 by-split m high h e =
     rw (and-mask m 4, ← e) (agree (λ k. splitBy (k / 16) (k % 16) k) markerOf 256 refl m h)
 
+-- a small String's and a small Integer's marker
+pub small-string : (m : ℕ) → m / 16 ≡ 8 → small (K.Leaf L.String) (bitAnd m 15) ≡ markerOf m
+small-string m e = by-split m 8 (omega (arith, e)) e
+
+pub small-integer : (m : ℕ) → m < 0x80 → itself L.Integer 0 ≡ markerOf m
+unfolding tabulate markerOf lookup
+small-integer m h = agree (λ k. itself L.Integer 0) markerOf 0x80 refl m h
+
 -- ---- what holds of every marker
 -- the marker alone tells the size
 abbrev pub tellsSize : Leaf → Bool

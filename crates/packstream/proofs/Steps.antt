@@ -14,15 +14,13 @@ use Rattle.refusal.specs.declared.Refusal.the-variants.{ValueTruncated, TooDeep
 use Rattle.packstream.specs.Value as Tree
 use Rattle.packstream.specs.Value.{Value, Items, no-items, item, Entries, no-entries, entry, count, countEntries, first, firstEntry}
 use Rattle.packstream.specs.Decode.{Parse, parsed, failed, andThen, mapped, extentAt, isText, leafValue, leafAt, KeyText, keyAt, items, entries, structureAt, containerAt, valueOf, valueAt}
-use Rattle.packstream.specs.Reading.{headOf, readingOf}
+use Rattle.packstream.specs.Reading.{stepOf}
 use Rattle.packstream.specs.declared.marker.Leaf.{Leaf}
 use Rattle.packstream.specs.declared.marker.Container.{Container}
 use Rattle.packstream.specs.declared.marker.Container.the-variants as C
 use Rattle.packstream.specs.declared.extent.Extent.{Extent}
 use Rattle.packstream.specs.declared.extent.Extent.the-variants as E
-use Rattle.packstream.specs.declared.read.Head.{Head}
-use Rattle.packstream.specs.declared.read.Head.the-variants as H
-use Rattle.packstream.specs.declared.read.Reading.the-variants as R
+use Rattle.packstream.specs.declared.value.Step.the-variants as S
 use Rattle.packstream.proofs.Extents.{Inside, extent-inside, key-inside, room-for}
 use Rattle.packstream.proofs.Leaves.{leaf-text, leaf-no-text}
 use Rattle.packstream.proofs.KeySearch as Keys
@@ -111,13 +109,18 @@ past-value s (suc depth) at = past-of s (λ p. valueAt s depth p) (λ p. past-va
 clash : _≡_ {A = ℕ} 0 1 → ⊥
 clash e = omega arith
 
-pub read-value : (g : Parse Value) (h : Head) (q : ℕ) → R.Value h q ≡ readingOf g → (v : Value) × (g ≡ parsed v q)
-read-value (parsed v p) h q e = let i : q ≡ p = cc e in (v, ap (parsed v) (sym i))
-read-value (failed why place) h q e = let z : _≡_ {A = ℕ} 0 1 = cc e in absurd (clash z)
+pub step-to : {A : Type 0} (g : Parse A) (q : ℕ) → S.To q ≡ stepOf g → (a : A) × (g ≡ parsed a q)
+step-to (parsed a p) q e = let i : q ≡ p = cc e in (a, ap (parsed a) (sym i))
+step-to (failed why place) q e = let z : _≡_ {A = ℕ} 0 1 = cc e in absurd (clash z)
 
-pub read-refused : (g : Parse Value) (why : Refusal) (q : ℕ) → R.Refused why q ≡ readingOf g → g ≡ failed why q
-read-refused (parsed v p) why q e = let z : _≡_ {A = ℕ} 0 1 = cc e in absurd (clash z)
-read-refused (failed w p) why q e = let a : why ≡ w = cc e in let b : q ≡ p = cc e in rw (a, b)
+pub step-refused : {A : Type 0} (g : Parse A) (why : Refusal) (q : ℕ) → S.Refused why q ≡ stepOf g → g ≡ failed why q
+step-refused (parsed a p) why q e = let z : _≡_ {A = ℕ} 0 1 = cc e in absurd (clash z)
+step-refused (failed w p) why q e = let a : why ≡ w = cc e in let b : q ≡ p = cc e in rw (a, b)
+
+-- what is made of it does not matter
+pub step-mapped : {A B : Type 0} (w : A → B) (g : Parse A) → stepOf (mapped w g) ≡ stepOf g
+step-mapped w (parsed a q) = refl
+step-mapped w (failed why place) = refl
 
 pub value-bounds : (s : List ℕ) (depth at : ℕ) (v : Value) (q : ℕ) → valueAt s depth at ≡ parsed v q → (at < q) × (q ≤ length s)
 value-bounds s depth at v q e = subst (Past (length s) at) e (past-value s depth at)
@@ -155,25 +158,27 @@ module _ (s : List ℕ) (depth at : ℕ) where
       → containerAt s (valueAt s (depth - 1)) at j p n ≡ valueAt s depth at
   container-as k j p n f e = ap (λ (i : Container). containerAt s (valueAt s (depth - 1)) at i p n) (sym f) ∙ by-container k p n e
 
+  -- a List is read through its items, a Dictionary through its entries
+  pub by-items : (k : Container) (p n : ℕ) → k ≡ C.List → E.Container k p n ≡ extentAt s depth at
+      → stepOf (items (valueAt s (depth - 1)) n p) ≡ stepOf (valueAt s depth at)
+  by-items k p n f e = sym (step-mapped Tree.list (items (valueAt s (depth - 1)) n p)) ∙ ap stepOf (container-as k C.List p n f e)
+
+  pub by-entries : (k : Container) (p n : ℕ) → k ≡ C.Dictionary → E.Container k p n ≡ extentAt s depth at
+      → stepOf (entries s (valueAt s (depth - 1)) [] n p) ≡ stepOf (valueAt s depth at)
+  by-entries k p n f e =
+      sym (step-mapped Tree.dictionary (entries s (valueAt s (depth - 1)) [] n p)) ∙ ap stepOf (container-as k C.Dictionary p n f e)
+
 -- ---- items and entries one by one
--- where a reading ended, or its refusal
-abbrev pub outcome : {A : Type 0} → Parse A → Parse (Unit {0})
-outcome g = mapped (λ _. tt) g
-
-outcome-mapped : {A B : Type 0} (w : A → B) (g : Parse A) → outcome (mapped w g) ≡ outcome g
-outcome-mapped w (parsed a q) = refl
-outcome-mapped w (failed why place) = refl
-
 -- of n items i are read; the others, from p on, are still to be read
 abbrev pub ItemsLeft : (ℕ → Parse Value) → ℕ → ℕ → ℕ → ℕ → Type 0
-ItemsLeft f n start i p = outcome (items f n start) ≡ outcome (items f (n - i) p)
+ItemsLeft f n start i p = stepOf (items f n start) ≡ stepOf (items f (n - i) p)
 
 module _ (f : ℕ → Parse Value) (n start : ℕ) where
   pub items-none : ItemsLeft f n start 0 start
   items-none = let z : n - 0 ≡ n = omega arith in rw z
 
   module _ (i p : ℕ) (so-far : ItemsLeft f n start i p) where
-    pub items-done : n ≤ i → outcome (items f n start) ≡ parsed tt p
+    pub items-done : n ≤ i → stepOf (items f n start) ≡ S.To p
     unfolding items
     items-done h = let z : n - i ≡ 0 = omega arith in so-far ∙ rw z
 
@@ -182,32 +187,32 @@ module _ (f : ℕ → Parse Value) (n start : ℕ) where
       unfolding items
       items-next v q e =
           let m : n - i ≡ suc (n - (i + 1)) = omega arith in
-          so-far ∙ rw (m, e) (outcome-mapped (item p v) (items f (n - (i + 1)) q))
+          so-far ∙ rw (m, e) (step-mapped (item p v) (items f (n - (i + 1)) q))
 
-      pub items-stop : (why : Refusal) (q : ℕ) → f p ≡ failed why q → outcome (items f n start) ≡ failed why q
+      pub items-stop : (why : Refusal) (q : ℕ) → f p ≡ failed why q → stepOf (items f n start) ≡ S.Refused why q
       unfolding items
       items-stop why q e = let m : n - i ≡ suc (n - (i + 1)) = omega arith in so-far ∙ rw (m, e)
 
 -- of n entries i are read, with the keys `seen`
 abbrev pub EntriesLeft : List ℕ → (ℕ → Parse Value) → ℕ → ℕ → ℕ → ℕ → List (List ℕ) → Type 0
-EntriesLeft s f n start i p seen = outcome (entries s f [] n start) ≡ outcome (entries s f seen (n - i) p)
+EntriesLeft s f n start i p seen = stepOf (entries s f [] n start) ≡ stepOf (entries s f seen (n - i) p)
 
 module _ (s : List ℕ) (f : ℕ → Parse Value) (n start : ℕ) where
   pub entries-none : EntriesLeft s f n start 0 start []
   entries-none = let z : n - 0 ≡ n = omega arith in rw z
 
   module _ (i p : ℕ) (seen : List (List ℕ)) (so-far : EntriesLeft s f n start i p seen) where
-    pub entries-done : n ≤ i → outcome (entries s f [] n start) ≡ parsed tt p
+    pub entries-done : n ≤ i → stepOf (entries s f [] n start) ≡ S.To p
     unfolding entries
     entries-done h = let z : n - i ≡ 0 = omega arith in so-far ∙ rw z
 
     module _ (h : i < n) where
-      pub entries-stop : (why : Refusal) (q : ℕ) → keyAt s seen p ≡ failed why q → outcome (entries s f [] n start) ≡ failed why q
+      pub entries-stop : (why : Refusal) (q : ℕ) → keyAt s seen p ≡ failed why q → stepOf (entries s f [] n start) ≡ S.Refused why q
       unfolding entries
       entries-stop why q e = let m : n - i ≡ suc (n - (i + 1)) = omega arith in so-far ∙ rw (m, e)
 
       module _ (k : KeyText) (q : ℕ) (key : keyAt s seen p ≡ parsed k q) where
-        pub entries-halt : (why : Refusal) (r : ℕ) → f q ≡ failed why r → outcome (entries s f [] n start) ≡ failed why r
+        pub entries-halt : (why : Refusal) (r : ℕ) → f q ≡ failed why r → stepOf (entries s f [] n start) ≡ S.Refused why r
         unfolding entries
         entries-halt why r e = let m : n - i ≡ suc (n - (i + 1)) = omega arith in so-far ∙ rw (m, key, e)
 
@@ -215,16 +220,7 @@ module _ (s : List ℕ) (f : ℕ → Parse Value) (n start : ℕ) where
         unfolding entries
         entries-next v r e =
             let m : n - i ≡ suc (n - (i + 1)) = omega arith in
-            so-far ∙ rw (m, key, e) (outcome-mapped (entry p (k .start) (k .content) q v) (entries s f (k .content ∷ seen) (n - (i + 1)) r))
-
--- ---- what a container's reader answers once its outcome is known
-pub refused-as : {A : Type 0} (w : A → Value) (g : Parse A) (why : Refusal) (q : ℕ) → outcome g ≡ failed why q → R.Refused why q ≡ readingOf (mapped w g)
-refused-as w (parsed a p) why q e = let z : _≡_ {A = ℕ} 0 1 = cc e in absurd (clash z)
-refused-as w (failed v p) why q e = let a : v ≡ why = cc e in let b : p ≡ q = cc e in rw (a, b)
-
-parsed-as : {A : Type 0} (g : Parse A) (q : ℕ) → outcome g ≡ parsed tt q → (a : A) × (g ≡ parsed a q)
-parsed-as (parsed a p) q e = let i : p ≡ q = cc e in (a, ap (parsed a) i)
-parsed-as (failed why p) q e = let z : _≡_ {A = ℕ} 0 1 = cc e in absurd (clash z)
+            so-far ∙ rw (m, key, e) (step-mapped (entry p (k .start) (k .content) q v) (entries s f (k .content ∷ seen) (n - (i + 1)) r))
 
 -- ---- what a reading that succeeded was made of
 pub then-parsed : {A B : Type 0} (g : Parse A) (k : A → ℕ → Parse B) (b : B) (q : ℕ) → andThen g k ≡ parsed b q
@@ -292,36 +288,13 @@ entries-count s f seen (suc n) p es q e =
     let i = first-entry s f seen n p es q e in
     rw (i .all) (ap suc (entries-count s f (i .k .content ∷ seen) n (i .next) (i .rest) q (i .others) .0), refl)
 
-pub list-read : (f : ℕ → Parse Value) (n p q : ℕ) → outcome (items f n p) ≡ parsed tt q → R.Value (H.List p n) q ≡ readingOf (mapped Tree.list (items f n p))
-unfolding headOf
-list-read f n p q e =
-    let g = parsed-as (items f n p) q e in
-    let c = items-count f n p (g .0) q (g .1) in
-    rw (g .1, c .0, c .1)
-
-pub dictionary-read : (s : List ℕ) (f : ℕ → Parse Value) (n p q : ℕ) → outcome (entries s f [] n p) ≡ parsed tt q
-    → R.Value (H.Dictionary p n) q ≡ readingOf (mapped Tree.dictionary (entries s f [] n p))
-unfolding headOf
-dictionary-read s f n p q e =
-    let g = parsed-as (entries s f [] n p) q e in
-    let c = entries-count s f [] n p (g .0) q (g .1) in
-    rw (g .1, c .0, c .1)
-
+-- ---- a Structure: its tag, and its fields
 module _ (s : List ℕ) (f : ℕ → Parse Value) (at p n : ℕ) where
-  pub no-tag : length s ≤ p → R.Refused ValueTruncated at ≡ readingOf (structureAt s f at p n)
+  pub no-tag : length s ≤ p → S.Refused ValueTruncated at ≡ stepOf (structureAt s f at p n)
   no-tag h = rw (le-ltb p (length s) h)
 
-  module _ (h : p < length s) where
-    pub fields-refused : (why : Refusal) (q : ℕ) → outcome (items f n (p + 1)) ≡ failed why q → R.Refused why q ≡ readingOf (structureAt s f at p n)
-    fields-refused why q e = rw (lt-ltb p (length s) h) (refused-as (Tree.structure (getD s p 0)) (items f n (p + 1)) why q e)
-
-    pub structure-read : (q : ℕ) → outcome (items f n (p + 1)) ≡ parsed tt q
-        → R.Value (H.Structure (getD s p 0) (p + 1) n) q ≡ readingOf (structureAt s f at p n)
-    unfolding headOf
-    structure-read q e =
-        let g = parsed-as (items f n (p + 1)) q e in
-        let c = items-count f n (p + 1) (g .0) q (g .1) in
-        rw (lt-ltb p (length s) h, g .1, c .0, c .1)
+  pub by-fields : p < length s → stepOf (items f n (p + 1)) ≡ stepOf (structureAt s f at p n)
+  by-fields h = rw (lt-ltb p (length s) h) (sym (step-mapped (Tree.structure (getD s p 0)) (items f n (p + 1))))
 
 -- ---- what the reading of a value tells
 pub data ValueTells (s : List ℕ) (depth at : ℕ) : Parse Value → Type 0 where

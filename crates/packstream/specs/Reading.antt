@@ -12,6 +12,8 @@ use Rattle.packstream.specs.declared.read.Head.the-variants as H
 use Rattle.packstream.specs.declared.read.Head.{Head}
 use Rattle.packstream.specs.declared.read.Reading.the-variants as R
 use Rattle.packstream.specs.declared.read.Reading.{Reading}
+use Rattle.packstream.specs.declared.value.Step.the-variants as S
+use Rattle.packstream.specs.declared.value.Step.{Step}
 
 -- the head of a value that ends at `end`: its kind, and what it holds or where that lies
 unfoldable pub headOf : Value → ℕ → Head
@@ -34,10 +36,10 @@ pub record Found : Type 0 where
 abbrev pub foundAt : ℕ → Value → Found
 foundAt end v = record { head = headOf v end; end = end }
 
--- the answer that says so
-abbrev pub readingOf : Parse Value → Reading
-readingOf (parsed v end) = R.Value (headOf v end) end
-readingOf (failed why place) = R.Refused why place
+-- how far a reader comes: the offset past what it reads, or the refusal
+abbrev pub stepOf : {A : Type 0} → Parse A → Step
+stepOf (parsed a end) = S.To end
+stepOf (failed why place) = S.Refused why place
 
 -- the code's answer in the paper's terms
 abbrev pub told : Reading → Answer Found

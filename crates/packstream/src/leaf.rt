@@ -9,11 +9,12 @@ ghost use Rattle.numbers.specs.BigEndian.{bigEndian};
 ghost use Rattle.numbers.specs.TwosComplement.{twos};
 ghost use Rattle.packstream.specs.Marker.{hasSize};
 ghost use Rattle.packstream.specs.Decode.{isText, leafValue, leafAt};
-ghost use Rattle.packstream.specs.Reading.{headOf, readingOf};
+ghost use Rattle.packstream.specs.Reading.{headOf, stepOf};
 use crate::marker::Leaf;
 use crate::marker::is_string;
 use crate::read::Head;
-use crate::read::Reading;
+use crate::value::Step;
+use crate::value::refused;
 use numbers::Signed;
 use numbers::Unsigned;
 use refusal::Refusal;
@@ -69,18 +70,12 @@ fn is_text(message: &[u8], kind: Leaf, start: usize, size: usize) -> bool
 }
 
 // Reads the value of this kind whose marker is at `at` and whose content is the `size` bytes from `start` on.
-pub fn read_leaf(message: &[u8], at: usize, kind: Leaf, start: usize, size: usize) -> Reading
-    requires { ⌜ (start + size ≤ length (now message)) × (hasSize kind size ≡ true) ⌝ }
-    ensures { λ r. ⌜ r ≡ readingOf (leafAt (now (message .entry)) at kind start size) ⌝ }
+pub fn read_leaf(message: &[u8], at: usize, kind: Leaf, start: usize, size: usize) -> Step
+    requires { ⌜ start + size ≤ length (now message) ⌝ }
+    ensures { λ r. ⌜ r ≡ stepOf (leafAt (now (message .entry)) at kind start size) ⌝ }
 {
     if !is_text(message, kind, start, size) {
-        return Reading::Refused {
-            refusal: Refusal::InvalidUtf8,
-            place: at,
-        };
+        return refused(Refusal::InvalidUtf8, at);
     }
-    Reading::Value {
-        head: leaf_head(message, kind, start, size),
-        end: start + size,
-    }
+    Step::To(start + size)
 }

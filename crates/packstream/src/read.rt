@@ -3,12 +3,11 @@ ghost use mathlib.Core.Path.{_≡_};
 ghost use Prim.Native.Nat.{_≤_};
 ghost use lib.ListN.{length};
 ghost use Rattle.packstream.specs.Decode.{valueAt, valueIn, decode};
-ghost use Rattle.packstream.specs.Reading.{allowed, readingOf, told, tellMessage, tellValue};
-use crate::extent::Extent;
-use crate::extent::extent_at;
-use crate::leaf::leaf_head;
-use crate::marker::Container;
+ghost use Rattle.packstream.specs.Reading.{allowed, stepOf, told, tellMessage, tellValue};
+use crate::value::Step;
 use crate::value::value;
+use crate::walk::Peeked;
+use crate::walk::peek;
 use refusal::Refusal;
 
 // What a value is, with where its parts lie in the message.
@@ -45,36 +44,63 @@ const MOST_BYTES: usize = 16384;
 // A message of at most so many bytes is read with a small scratch, which is quick to clear.
 const SHORT: usize = 256;
 
-fn read_short(message: &[u8], at: usize, depth: usize) -> Reading
+fn refused(refusal: Refusal, place: usize) -> Reading
+    ensures { λ r. ⌜ r ≡ Reading.Refused refusal place ⌝ }
+{
+    Reading::Refused {
+        refusal: refusal,
+        place: place,
+    }
+}
+
+fn read_short(message: &[u8], at: usize, depth: usize) -> Step
     requires { ⌜ length (now message) ≤ 256 ⌝ }
-    ensures { λ r. ⌜ r ≡ readingOf (valueAt (now (message .entry)) depth at) ⌝ }
+    ensures { λ r. ⌜ r ≡ stepOf (valueAt (now (message .entry)) depth at) ⌝ }
 {
     let mut scratch = [0u16; SHORT];
     value(message, at, depth, &mut scratch, 0)
 }
 
-fn read_long(message: &[u8], at: usize, depth: usize) -> Reading
+fn read_long(message: &[u8], at: usize, depth: usize) -> Step
     requires { ⌜ length (now message) ≤ 16384 ⌝ }
-    ensures { λ r. ⌜ r ≡ readingOf (valueAt (now (message .entry)) depth at) ⌝ }
+    ensures { λ r. ⌜ r ≡ stepOf (valueAt (now (message .entry)) depth at) ⌝ }
 {
     let mut scratch = [0u16; MOST_BYTES];
     value(message, at, depth, &mut scratch, 0)
 }
 
-// The value at `at`, with room for `depth` open containers. A message that is too long is refused before anything else.
-fn read_at(message: &[u8], at: usize, depth: usize) -> Reading
-    ensures { λ r. ⌜ told r ≡ tellValue (valueIn (now (message .entry)) depth at) ⌝ }
+// Reads through the value at `at`, with room for `depth` open containers.
+fn read_through(message: &[u8], at: usize, depth: usize) -> Step
+    requires { ⌜ length (now message) ≤ 16384 ⌝ }
+    ensures { λ r. ⌜ r ≡ stepOf (valueAt (now (message .entry)) depth at) ⌝ }
 {
-    if MOST_BYTES < message.len() {
-        return Reading::Refused {
-            refusal: Refusal::TooLong,
-            place: 0,
-        };
-    }
     if message.len() <= SHORT {
         return read_short(message, at, depth);
     }
     read_long(message, at, depth)
+}
+
+// The value at `at`, with room for `depth` open containers. A message that is too long is refused before anything else. A value that was
+// read through has a head, which is then looked up.
+fn read_at(message: &[u8], at: usize, depth: usize) -> Reading
+    requires { ⌜ depth ≤ 16 ⌝ }
+    ensures { λ r. ⌜ told r ≡ tellValue (valueIn (now (message .entry)) depth at) ⌝ }
+{
+    if MOST_BYTES < message.len() {
+        return refused(Refusal::TooLong, 0);
+    }
+    match read_through(message, at, depth) {
+        Step::To(end) => {
+            let Peeked::Value(head) = peek(message, at) else {
+                return refused(Refusal::ValueTruncated, at);
+            };
+            Reading::Value {
+                head: head,
+                end: end,
+            }
+        }
+        Step::Refused { refusal, place } => refused(refusal, place),
+    }
 }
 
 // Reads the value at `at` of a message, with room for `depth` open containers, of which there are never more than 16. Refuses with 6 at place 0
@@ -98,10 +124,7 @@ pub fn read_message(message: &[u8]) -> Reading
             if end == message.len() {
                 return reading;
             }
-            Reading::Refused {
-                refusal: Refusal::TrailingBytes,
-                place: end,
-            }
+            refused(Refusal::TrailingBytes, end)
         }
         Reading::Refused {
             refusal: _,

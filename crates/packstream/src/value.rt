@@ -5,24 +5,28 @@ ghost use mathlib.Core.Path.{_≡_};
 ghost use mathlib.Core.List.{[]};
 ghost use Prim.Native.Nat.{_≤_, _<_};
 ghost use lib.ListN.{length, take};
-ghost use Rattle.packstream.specs.Value.{list, dictionary};
-ghost use Rattle.packstream.specs.Decode.{mapped, items, entries, structureAt, valueAt};
+ghost use Rattle.packstream.specs.Decode.{items, entries, structureAt, valueAt};
 ghost use Rattle.packstream.specs.Keys.{Room};
-ghost use Rattle.packstream.specs.Reading.{readingOf};
+ghost use Rattle.packstream.specs.Reading.{stepOf};
 use crate::extent::Extent;
 use crate::extent::Key;
 use crate::extent::extent_at;
 use crate::keys::read_key;
 use crate::leaf::read_leaf;
 use crate::marker::Container;
-use crate::read::Head;
-use crate::read::Reading;
 use refusal::Refusal;
 
-fn refused(refusal: Refusal, place: usize) -> Reading
-    ensures { λ r. ⌜ r ≡ Reading.Refused refusal place ⌝ }
+// How far a reader came. What it read is not put together: only the head of the value that a caller asks for is.
+pub enum Step {
+    // The offset past what was read.
+    To(usize),
+    Refused { refusal: Refusal, place: usize },
+}
+
+pub fn refused(refusal: Refusal, place: usize) -> Step
+    ensures { λ r. ⌜ r ≡ Step.Refused refusal place ⌝ }
 {
-    Reading::Refused {
+    Step::Refused {
         refusal: refusal,
         place: place,
     }
@@ -30,9 +34,9 @@ fn refused(refusal: Refusal, place: usize) -> Reading
 
 // Reads the value at `at`, with room for `depth` open containers. The scratch has, up to `top`, the keys of the dictionaries that are open; what
 // lies past `top` is free.
-pub fn value(message: &[u8], at: usize, depth: usize, scratch: &mut [u16], top: usize) -> Reading
+pub fn value(message: &[u8], at: usize, depth: usize, scratch: &mut [u16], top: usize) -> Step
     requires { ⌜ Room (length (now message)) (length (now scratch)) at top ⌝ }
-    ensures { λ r. ⌜ (r ≡ readingOf (valueAt (now (message .entry)) depth at)) × (take top (now (scratch .exit)) ≡ take top (now (scratch .entry))) ⌝ }
+    ensures { λ r. ⌜ (r ≡ stepOf (valueAt (now (message .entry)) depth at)) × (take top (now (scratch .exit)) ≡ take top (now (scratch .entry))) ⌝ }
 {
     let extent = extent_at(message, at, depth);
     match extent {
@@ -54,27 +58,21 @@ fn list(
     depth: usize,
     scratch: &mut [u16],
     top: usize,
-) -> Reading
+) -> Step
     requires { ⌜ Room (length (now message)) (length (now scratch)) first top ⌝ }
-    ensures { λ r. ⌜ (r ≡ readingOf (mapped list (items (valueAt (now (message .entry)) depth) count first))) × (take top (now (scratch .exit)) ≡ take top (now (scratch .entry))) ⌝ }
+    ensures { λ r. ⌜ (r ≡ stepOf (items (valueAt (now (message .entry)) depth) count first)) × (take top (now (scratch .exit)) ≡ take top (now (scratch .entry))) ⌝ }
 {
     let mut at = first;
     let mut i = 0;
     while i < count {
         let item = value(message, at, depth, scratch, top);
         match item {
-            Reading::Value { head: _, end } => at = end,
-            Reading::Refused { refusal, place } => return refused(refusal, place),
+            Step::To(end) => at = end,
+            Step::Refused { refusal, place } => return refused(refusal, place),
         }
         i += 1;
     }
-    Reading::Value {
-        head: Head::List {
-            first: first,
-            count: count,
-        },
-        end: at,
-    }
+    Step::To(at)
 }
 
 // Reads the tag at `start` and the `count` fields after it of the Structure whose marker is at `marker`.
@@ -86,32 +84,24 @@ fn structure(
     depth: usize,
     scratch: &mut [u16],
     top: usize,
-) -> Reading
+) -> Step
     requires { ⌜ Room (length (now message)) (length (now scratch)) start top ⌝ }
-    ensures { λ r. ⌜ (r ≡ readingOf (structureAt (now (message .entry)) (valueAt (now (message .entry)) depth) marker start count)) × (take top (now (scratch .exit)) ≡ take top (now (scratch .entry))) ⌝ }
+    ensures { λ r. ⌜ (r ≡ stepOf (structureAt (now (message .entry)) (valueAt (now (message .entry)) depth) marker start count)) × (take top (now (scratch .exit)) ≡ take top (now (scratch .entry))) ⌝ }
 {
     if message.len() <= start {
         return refused(Refusal::ValueTruncated, marker);
     }
-    let tag = message[start];
     let mut at = start + 1;
     let mut i = 0;
     while i < count {
         let field = value(message, at, depth, scratch, top);
         match field {
-            Reading::Value { head: _, end } => at = end,
-            Reading::Refused { refusal, place } => return refused(refusal, place),
+            Step::To(end) => at = end,
+            Step::Refused { refusal, place } => return refused(refusal, place),
         }
         i += 1;
     }
-    Reading::Value {
-        head: Head::Structure {
-            tag: tag,
-            first: start + 1,
-            count: count,
-        },
-        end: at,
-    }
+    Step::To(at)
 }
 
 // Reads the `count` entries of a Dictionary from `first` on.
@@ -122,9 +112,9 @@ fn dictionary(
     depth: usize,
     scratch: &mut [u16],
     top: usize,
-) -> Reading
+) -> Step
     requires { ⌜ Room (length (now message)) (length (now scratch)) first top × (top < first) × (first ≤ length (now message)) ⌝ }
-    ensures { λ r. ⌜ (r ≡ readingOf (mapped dictionary (entries (now (message .entry)) (valueAt (now (message .entry)) depth) [] count first))) × (take top (now (scratch .exit)) ≡ take top (now (scratch .entry))) ⌝ }
+    ensures { λ r. ⌜ (r ≡ stepOf (entries (now (message .entry)) (valueAt (now (message .entry)) depth) [] count first)) × (take top (now (scratch .exit)) ≡ take top (now (scratch .entry))) ⌝ }
 {
     let mut at = first;
     let mut i = 0;
@@ -137,19 +127,13 @@ fn dictionary(
                 scratch[next + 1] = size as u16;
                 let item = value(message, start + size, depth, scratch, next + 2);
                 match item {
-                    Reading::Value { head: _, end } => at = end,
-                    Reading::Refused { refusal, place } => return refused(refusal, place),
+                    Step::To(end) => at = end,
+                    Step::Refused { refusal, place } => return refused(refusal, place),
                 }
             }
             Key::Refused { refusal, place } => return refused(refusal, place),
         }
         i += 1;
     }
-    Reading::Value {
-        head: Head::Dictionary {
-            first: first,
-            count: count,
-        },
-        end: at,
-    }
+    Step::To(at)
 }

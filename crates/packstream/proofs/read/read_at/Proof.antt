@@ -1,32 +1,83 @@
 -- `packstream::read::read_at` meets its contract. Assumes nothing.
-use mathlib.Core.Path.{ap, _∙_}
+use mathlib.Core.Path.{_≡_, sym, ap, _∙_}
 use borrow.Author.Needs.{needs}
-use Rattle.packstream.specs.Reading.{told, tellValue}
 use Rattle.packstream.specs.Decode.{valueAt}
-use Rattle.packstream.proofs.Answers.{told-reading, value-too-long, value-not-long}
+use Rattle.packstream.specs.Reading.{stepOf, told, tellValue}
+use Rattle.packstream.specs.declared.value.Step.the-variants as S
+use Rattle.packstream.proofs.Answers.{value-too-long, value-not-long, read-head, read-no-head, read-stopped}
 use Rattle.packstream.proofs.read.read_at.Statement.{statement}
 use Rattle.packstream.proofs.read.read_at.Tie as tie
 
-returns : tie.Need-returns
-returns c = let a = c .before .before .args in ap tellValue (value-too-long (a .message .now) (a .depth) (a .at) (c .if1 .taken))
+refused-requires : tie.Need-refused-requires
+refused-requires c κs = search needs
 
-read-short-requires : tie.Need-read-short-requires
-read-short-requires c κs = search needs
+returns : tie.Need-returns
+returns c =
+    let a = c .before .before .before .args in
+    ap told (c .refused .ensures) ∙ ap tellValue (value-too-long (a .message .now) (a .depth) (a .at) (c .before .if1 .taken))
+
+read-through-requires : tie.Need-read-through-requires
+read-through-requires c κs = search needs
+
+enum-known-end : tie.Need-enum-known-end
+enum-known-end c = search needs
+
+peek-requires : tie.Need-peek-requires
+peek-requires c κs = search needs
+
+enum-known-head : tie.Need-enum-known-head
+enum-known-head c = search needs
+
+-- the value was read through
+ended : (c : tie.After-end) → let a = c .before .before .before .before .before .args in S.To (c .end .given .0 .0) ≡ stepOf (valueAt (a .message .now) (a .depth) (a .at))
+ended c = sym (c .end .given .1) ∙ c .before .before .read-through .ensures
+
+enum-told : tie.Need-enum-told
+enum-told c = search needs
+
+refused-requires-2 : tie.Need-refused-requires-2
+refused-requires-2 c κs = search needs
 
 returns-2 : tie.Need-returns-2
 returns-2 c =
-    let a = c .before .before .before .before .args in
-    ap told (c .read-short .ensures) ∙ told-reading (valueAt (a .message .now) (a .depth) (a .at))
-    ∙ ap tellValue (value-not-long (a .message .now) (a .depth) (a .at) (c .before .before .if1 .left))
+    let s = c .before .before .before .before .before .before .before .before .before .before in
+    let a = s .args in
+    absurd (read-no-head (a .message .now) (a .depth) (a .at) (s .pre) _ (ended (c .before .before .before .before .before)) (sym (c .before .enum-told .given .1) ∙ c .before .before .before .peek .ensures))
 
-read-long-requires : tie.Need-read-long-requires
-read-long-requires c κs = search needs
+enum-known-refusal : tie.Need-enum-known-refusal
+enum-known-refusal c = search needs
+
+refused-requires-3 : tie.Need-refused-requires-3
+refused-requires-3 c κs = search needs
 
 returns-3 : tie.Need-returns-3
 returns-3 c =
-    let a = c .before .before .before .before .args in
-    ap told (c .read-long .ensures) ∙ told-reading (valueAt (a .message .now) (a .depth) (a .at))
-    ∙ ap tellValue (value-not-long (a .message .now) (a .depth) (a .at) (c .before .before .if1 .left))
+    let s = c .before .before .before .before .before .before .before .before .before .before in
+    let a = s .args in
+    read-head (a .message .now) (a .depth) (a .at) (s .pre) _ (ended (c .before .before .before .before .before)) _ (sym (c .before .head .given .1) ∙ c .before .before .before .peek .ensures)
+    ∙ ap tellValue (value-not-long (a .message .now) (a .depth) (a .at) (c .before .before .before .before .before .before .before .before .if1 .left))
+
+returns-4 : tie.Need-returns-4
+returns-4 c =
+    let a = c .before .before .before .before .before .before .before .args in
+    ap told (c .refused3 .ensures)
+    ∙ read-stopped (a .message .now) (a .depth) (a .at) _ _ (sym (c .before .before .refusal .given .1) ∙ c .before .before .before .before .read-through .ensures)
+    ∙ ap tellValue (value-not-long (a .message .now) (a .depth) (a .at) (c .before .before .before .before .before .if1 .left))
 
 pub read-at-spec : {M : Type 1} → statement M
-read-at-spec = tie.close (tie.spec returns read-short-requires returns-2 read-long-requires returns-3)
+read-at-spec =
+    tie.close
+    (tie.spec
+    refused-requires
+    returns
+    read-through-requires
+    enum-known-end
+    peek-requires
+    enum-known-head
+    enum-told
+    refused-requires-2
+    returns-2
+    enum-known-refusal
+    refused-requires-3
+    returns-3
+    returns-4)

@@ -19,14 +19,17 @@ returns c =
     let r = ap told (sym (c .before .before .reading .given .1)) ∙ c .before .before .before .before .read-at .ensures in
     r ∙ message-whole s (valueIn s mostOpen 0) _ _ r (c .if1 .taken) ∙ ap (tellMessage s) (message-is s)
 
-enum-told : tie.Need-enum-told
-enum-told c = search needs
+refused-requires : tie.Need-refused-requires
+refused-requires c κs = search needs
 
 returns-2 : tie.Need-returns-2
 returns-2 c =
-    let s = c .before .before .before .before .before .before .args .message .now in
-    let r = ap told (sym (c .before .before .reading .given .1)) ∙ c .before .before .before .before .read-at .ensures in
-    message-trailing s (valueIn s mostOpen 0) _ _ r (c .if1 .left) ∙ ap (tellMessage s) (message-is s)
+    let s = c .before .before .before .before .before .before .before .args .message .now in
+    let r = ap told (sym (c .before .before .before .reading .given .1)) ∙ c .before .before .before .before .before .read-at .ensures in
+    ap told (c .refused .ensures) ∙ message-trailing s (valueIn s mostOpen 0) _ _ r (c .before .if1 .left) ∙ ap (tellMessage s) (message-is s)
+
+enum-told : tie.Need-enum-told
+enum-told c = search needs
 
 returns-3 : tie.Need-returns-3
 returns-3 c =
@@ -36,4 +39,4 @@ returns-3 c =
 
 pub read-message-spec : {M : Type 1} → statement M
 read-message-spec =
-    tie.close (tie.spec read-at-requires enum-known-reading returns enum-told returns-2 returns-3)
+    tie.close (tie.spec read-at-requires enum-known-reading returns refused-requires enum-told returns-2 returns-3)

@@ -8,16 +8,15 @@ use borrow.Author.Needs.{needs}
 use borrow.Fn.Kinds.{In}
 use borrow.Fn.PlainCycle.{Measures, is, falls, and}
 use lib.ListN.{length, take, length-set}
-use Rattle.packstream.specs.Value as Tree
 use Rattle.packstream.specs.Decode.{items, entries, extentAt, valueAt}
 use Rattle.packstream.specs.Keys.{keysOf, KeysInside}
-use Rattle.packstream.specs.Reading.{readingOf}
+use Rattle.packstream.specs.Reading.{stepOf}
 use Rattle.packstream.specs.declared.marker.Container.the-variants as C
 use Rattle.packstream.specs.declared.extent.Extent.the-variants as E
 use Rattle.packstream.proofs.Extents.{Inside, extent-inside, room-for}
 use Rattle.packstream.proofs.KeySearch.{KeyRead, key-read, key-refused}
 use Rattle.packstream.proofs.Scratch.{take-less, length-keep, take-keep, keys-kept, inside-kept}
-use Rattle.packstream.proofs.Steps.{read-value, read-refused, value-bounds, by-leaf, by-refused, container-as, ItemsLeft, items-none, items-done, items-next, items-stop, EntriesLeft, entries-none, entries-done, entries-stop, entries-halt, entries-next, refused-as, list-read, dictionary-read, no-tag, fields-refused, structure-read}
+use Rattle.packstream.proofs.Steps.{step-to, step-refused, value-bounds, by-leaf, by-refused, container-as, by-items, by-entries, ItemsLeft, items-none, items-done, items-next, items-stop, EntriesLeft, entries-none, entries-done, entries-stop, entries-halt, entries-next, no-tag, by-fields}
 use Rattle.packstream.proofs.value.dictionary.Reads as dictionary
 use Rattle.packstream.proofs.value.dictionary.Kinds as dictionary-kinds
 use Rattle.packstream.proofs.value.+dictionary+list+structure+value.Lts-dictionary as dictionary-lts
@@ -114,7 +113,7 @@ value-read-leaf-requires : (t : ℕ) → value-lts.Need-read-leaf-requires (valu
 value-read-leaf-requires t c κs =
     let a = c .before .before .before .before .before .before .args in
     let i = subst (Inside (a .message .now) (a .at)) (sym (value-leaf t (c .before))) (extent-inside (a .message .now) (a .at) (a .depth)) in
-    (i .inside, i .sized)
+    i .inside
 
 value-enum-known-extent-2 : (t : ℕ) → value-lts.Need-enum-known-extent-2 (value-calls t) (value-at t) value.Post
 value-enum-known-extent-2 t c = search needs
@@ -182,7 +181,7 @@ value-refused-requires t c κs = search needs
 value-returns : (t : ℕ) → value-lts.Need-returns (value-calls t) (value-at t) value.Post
 value-returns t c =
     let a = c .before .before .before .before .before .before .before .args in
-    (c .read-leaf .ensures ∙ ap readingOf (by-leaf (a .message .now) (a .depth) (a .at) _ _ _ (value-leaf t (c .before .before))), refl)
+    (c .read-leaf .ensures ∙ ap stepOf (by-leaf (a .message .now) (a .depth) (a .at) _ _ _ (value-leaf t (c .before .before))), refl)
 
 value-same-length : (t : ℕ) → value-lts.Need-same-length (value-calls t) (value-at t) value.Post
 value-same-length t c = c .before .before .list .kept .1 .1 .1 .1 .0
@@ -191,7 +190,7 @@ value-returns-2 : (t : ℕ) → value-lts.Need-returns-2 (value-calls t) (value-
 value-returns-2 t c =
     let a = c .before .before .before .before .before .before .before .before .before .before .before .before .args in
     let k = c .before .before .before .before .enum-told .given .1 in
-    (c .before .before .list .ensures .0 ∙ ap readingOf (container-as (a .message .now) (a .depth) (a .at) _ C.List _ _ k (value-container t (c .before .before .before .before .before .before .before))), c .before .before .list .ensures .1)
+    (c .before .before .list .ensures .0 ∙ by-items (a .message .now) (a .depth) (a .at) _ _ _ k (value-container t (c .before .before .before .before .before .before .before)), c .before .before .list .ensures .1)
 
 value-same-length-2 : (t : ℕ) → value-lts.Need-same-length-2 (value-calls t) (value-at t) value.Post
 value-same-length-2 t c = c .before .before .dictionary .kept .1 .1 .1 .1 .0
@@ -200,7 +199,7 @@ value-returns-3 : (t : ℕ) → value-lts.Need-returns-3 (value-calls t) (value-
 value-returns-3 t c =
     let a = c .before .before .before .before .before .before .before .before .before .before .before .before .args in
     let k = c .before .before .before .before .enum-told2 .given .1 in
-    (c .before .before .dictionary .ensures .0 ∙ ap readingOf (container-as (a .message .now) (a .depth) (a .at) _ C.Dictionary _ _ k (value-container t (c .before .before .before .before .before .before .before))), c .before .before .dictionary .ensures .1)
+    (c .before .before .dictionary .ensures .0 ∙ by-entries (a .message .now) (a .depth) (a .at) _ _ _ k (value-container t (c .before .before .before .before .before .before .before)), c .before .before .dictionary .ensures .1)
 
 value-same-length-3 : (t : ℕ) → value-lts.Need-same-length-3 (value-calls t) (value-at t) value.Post
 value-same-length-3 t c = c .before .before .structure .kept .1 .1 .1 .1 .1 .0
@@ -209,12 +208,12 @@ value-returns-4 : (t : ℕ) → value-lts.Need-returns-4 (value-calls t) (value-
 value-returns-4 t c =
     let a = c .before .before .before .before .before .before .before .before .before .before .before .before .args in
     let k = c .before .before .before .before .enum-told3 .given .1 in
-    (c .before .before .structure .ensures .0 ∙ ap readingOf (container-as (a .message .now) (a .depth) (a .at) _ C.Structure _ _ k (value-container t (c .before .before .before .before .before .before .before))), c .before .before .structure .ensures .1)
+    (c .before .before .structure .ensures .0 ∙ ap stepOf (container-as (a .message .now) (a .depth) (a .at) _ C.Structure _ _ k (value-container t (c .before .before .before .before .before .before .before))), c .before .before .structure .ensures .1)
 
 value-returns-5 : (t : ℕ) → value-lts.Need-returns-5 (value-calls t) (value-at t) value.Post
 value-returns-5 t c =
     let a = c .before .before .before .before .before .before .before .args in
-    (c .refused .ensures ∙ ap readingOf (by-refused (a .message .now) (a .depth) (a .at) _ _ (sym (c .before .before .extent3 .given .1) ∙ c .before .before .before .before .extent-at .ensures)), refl)
+    (c .refused .ensures ∙ ap stepOf (by-refused (a .message .now) (a .depth) (a .at) _ _ (sym (c .before .before .extent3 .given .1) ∙ c .before .before .before .before .extent-at .ensures)), refl)
 
 -- ---- list
 abbrev list-Inv-loop : list-lts.InvT-loop
@@ -256,9 +255,8 @@ list-returns t c =
     let a = c .before .before .before .before .before .before .before .before .before .before .before .before .args in
     let l = c .before .before .before .before .before .before .before .before .before .loop in
     let f = valueAt (a .message .now) (a .depth) in
-    let e = read-refused (f (l .at)) _ _ (sym (c .before .before .item2 .given .1) ∙ c .before .before .before .before .before .before .value .ensures .0) in (
-      c .refused .ensures ∙ refused-as Tree.list (items f (a .count) (a .first)) _ _
-          (items-stop f (a .count) (a .first) (l .i) (l .at) (l .inv .3) (c .before .before .before .before .before .before .before .before .loop-test .taken) _ _ e),
+    let e = step-refused (f (l .at)) _ _ (sym (c .before .before .item2 .given .1) ∙ c .before .before .before .before .before .before .value .ensures .0) in (
+      c .refused .ensures ∙ sym (items-stop f (a .count) (a .first) (l .i) (l .at) (l .inv .3) (c .before .before .before .before .before .before .before .before .loop-test .taken) _ _ e),
       c .before .before .before .before .before .before .value .ensures .1 ∙ l .inv .2,
     )
 
@@ -273,7 +271,7 @@ list-loop-again t c =
     let a = c .before .before .before .before .before .before .before .before .before .before .before .args in
     let l = c .before .before .before .before .before .before .before .before .loop in
     let f = valueAt (a .message .now) (a .depth) in
-    let e = read-value (f (l .at)) _ _ (sym (c .before .item .given .1) ∙ c .before .before .before .before .before .value .ensures .0) in
+    let e = step-to (f (l .at)) _ (sym (c .before .item .given .1) ∙ c .before .before .before .before .before .value .ensures .0) in
     let b = value-bounds (a .message .now) (a .depth) (l .at) (e .0) _ (e .1) in (
       omega (arith, b .0, l .inv .0),
       c .before .before .before .before .before .value .kept .1 .1 .1 .0 ∙ l .inv .1,
@@ -289,15 +287,15 @@ list-returns-2 t c =
     let a = c .before .before .before .before .args in
     let l = c .before .loop in
     let f = valueAt (a .message .now) (a .depth) in
-    (list-read f (a .count) (a .first) (l .at) (items-done f (a .count) (a .first) (l .i) (l .at) (l .inv .3) (c .loop-test .left)), l .inv .2)
+    (sym (items-done f (a .count) (a .first) (l .i) (l .at) (l .inv .3) (c .loop-test .left)), l .inv .2)
 
 -- ---- structure
 abbrev structure-Inv-loop : structure-lts.InvT-loop
-structure-Inv-loop message marker start count depth scratch₀ top tag at₀ i₀ scratch at i =
+structure-Inv-loop message marker start count depth scratch₀ top at₀ i₀ scratch at i =
     (start + 1 ≤ at) × (length scratch ≡ length scratch₀) × (take top scratch ≡ take top scratch₀) × ItemsLeft (valueAt message depth) count (start + 1) i at
 
 abbrev structure-μ-loop : structure-lts.MeasureT-loop
-structure-μ-loop message marker start count depth scratch₀ top tag at₀ i₀ scratch at i = count - i
+structure-μ-loop message marker start count depth scratch₀ top at₀ i₀ scratch at i = count - i
 
 structure-refused-requires : (t : ℕ) → structure-lts.Need-refused-requires (structure-calls t) (structure-at t) structure.Post structure-Inv-loop structure-μ-loop
 structure-refused-requires t c κs = search needs
@@ -307,20 +305,17 @@ structure-returns t c =
     let a = c .before .before .before .before .args in
     (c .refused .ensures ∙ no-tag (a .message .now) (valueAt (a .message .now) (a .depth)) (a .marker) (a .start) (a .count) (c .before .if1 .taken), refl)
 
-structure-shared-slice-read-tag : (t : ℕ) → structure-lts.Need-shared-slice-read-tag (structure-calls t) (structure-at t) structure.Post structure-Inv-loop structure-μ-loop
-structure-shared-slice-read-tag t c = search needs
-
 structure-add-at : (t : ℕ) → structure-lts.Need-add-at (structure-calls t) (structure-at t) structure.Post structure-Inv-loop structure-μ-loop
 structure-add-at t c = search needs
 
 structure-loop-holds : (t : ℕ) → structure-lts.Need-loop-holds (structure-calls t) (structure-at t) structure.Post structure-Inv-loop structure-μ-loop
 structure-loop-holds t c =
-    let a = c .before .before .before .before .args in
+    let a = c .before .before .before .args in
     (omega arith, refl, refl, items-none (valueAt (a .message .now) (a .depth)) (a .count) (a .start + 1))
 
 structure-value-requires : (t : ℕ) → structure-lts.Need-value-requires (structure-calls t) (structure-at t) structure.Post structure-Inv-loop structure-μ-loop
 structure-value-requires t c κs =
-    let start = c .before .before .before .before .before .before .before in
+    let start = c .before .before .before .before .before .before in
     let m = start .pre .0 in
     let r = start .pre .1 in
     let below = r .below in
@@ -342,12 +337,12 @@ structure-same-length t c = c .before .before .before .before .before .before .v
 
 structure-returns-2 : (t : ℕ) → structure-lts.Need-returns-2 (structure-calls t) (structure-at t) structure.Post structure-Inv-loop structure-μ-loop
 structure-returns-2 t c =
-    let a = c .before .before .before .before .before .before .before .before .before .before .before .before .before .before .args in
+    let a = c .before .before .before .before .before .before .before .before .before .before .before .before .before .args in
     let l = c .before .before .before .before .before .before .before .before .before .loop in
     let f = valueAt (a .message .now) (a .depth) in
-    let e = read-refused (f (l .at)) _ _ (sym (c .before .before .field2 .given .1) ∙ c .before .before .before .before .before .before .value .ensures .0) in (
-      c .refused2 .ensures ∙ fields-refused (a .message .now) f (a .marker) (a .start) (a .count) (c .before .before .before .before .before .before .before .before .before .before .before .if1 .left) _ _
-          (items-stop f (a .count) (a .start + 1) (l .i) (l .at) (l .inv .3) (c .before .before .before .before .before .before .before .before .loop-test .taken) _ _ e),
+    let e = step-refused (f (l .at)) _ _ (sym (c .before .before .field2 .given .1) ∙ c .before .before .before .before .before .before .value .ensures .0) in (
+      c .refused2 .ensures ∙ sym (items-stop f (a .count) (a .start + 1) (l .i) (l .at) (l .inv .3) (c .before .before .before .before .before .before .before .before .loop-test .taken) _ _ e)
+          ∙ by-fields (a .message .now) f (a .marker) (a .start) (a .count) (c .before .before .before .before .before .before .before .before .before .before .if1 .left),
       c .before .before .before .before .before .before .value .ensures .1 ∙ l .inv .2,
     )
 
@@ -359,10 +354,10 @@ structure-loop-less t c = let h = c .before .before .before .before .before .bef
 
 structure-loop-again : (t : ℕ) → structure-lts.Need-loop-again (structure-calls t) (structure-at t) structure.Post structure-Inv-loop structure-μ-loop
 structure-loop-again t c =
-    let a = c .before .before .before .before .before .before .before .before .before .before .before .before .before .args in
+    let a = c .before .before .before .before .before .before .before .before .before .before .before .before .args in
     let l = c .before .before .before .before .before .before .before .before .loop in
     let f = valueAt (a .message .now) (a .depth) in
-    let e = read-value (f (l .at)) _ _ (sym (c .before .field .given .1) ∙ c .before .before .before .before .before .value .ensures .0) in
+    let e = step-to (f (l .at)) _ (sym (c .before .field .given .1) ∙ c .before .before .before .before .before .value .ensures .0) in
     let b = value-bounds (a .message .now) (a .depth) (l .at) (e .0) _ (e .1) in (
       omega (arith, b .0, l .inv .0),
       c .before .before .before .before .before .value .kept .1 .1 .1 .0 ∙ l .inv .1,
@@ -370,19 +365,16 @@ structure-loop-again t c =
       items-next f (a .count) (a .start + 1) (l .i) (l .at) (l .inv .3) (c .before .before .before .before .before .before .before .loop-test .taken) (e .0) _ (e .1),
     )
 
-structure-add-t15 : (t : ℕ) → structure-lts.Need-add-t15 (structure-calls t) (structure-at t) structure.Post structure-Inv-loop structure-μ-loop
-structure-add-t15 t c = search needs
-
 structure-same-length-2 : (t : ℕ) → structure-lts.Need-same-length-2 (structure-calls t) (structure-at t) structure.Post structure-Inv-loop structure-μ-loop
 structure-same-length-2 t c = c .before .loop .inv .1
 
 structure-returns-3 : (t : ℕ) → structure-lts.Need-returns-3 (structure-calls t) (structure-at t) structure.Post structure-Inv-loop structure-μ-loop
 structure-returns-3 t c =
-    let a = c .before .before .before .before .before .before .args in
+    let a = c .before .before .before .before .before .args in
     let l = c .before .loop in
     let f = valueAt (a .message .now) (a .depth) in (
-      structure-read (a .message .now) f (a .marker) (a .start) (a .count) (c .before .before .before .if1 .left) (l .at)
-          (items-done f (a .count) (a .start + 1) (l .i) (l .at) (l .inv .3) (c .loop-test .left)),
+      sym (items-done f (a .count) (a .start + 1) (l .i) (l .at) (l .inv .3) (c .loop-test .left))
+          ∙ by-fields (a .message .now) f (a .marker) (a .start) (a .count) (c .before .before .if1 .left),
       l .inv .2,
     )
 
@@ -514,9 +506,8 @@ dictionary-returns t c =
     let l = c .before .before .before .before .before .before .before .before .before .before .before .before .before .before .loop in
     let f = valueAt (a .message .now) (a .depth) in
     let k = dictionary-key t (c .before .before .before .before .before .before .before .before .before) in
-    let e = read-refused (f _) _ _ (sym (c .before .before .item2 .given .1) ∙ c .before .before .before .before .before .before .value .ensures .0) in (
-      c .refused .ensures ∙ refused-as Tree.dictionary (entries (a .message .now) f [] (a .count) (a .first)) _ _
-          (entries-halt (a .message .now) f (a .count) (a .first) (l .i) (l .at) _ (l .inv .5) (c .before .before .before .before .before .before .before .before .before .before .before .before .before .loop-test .taken) _ _ (k .parse) _ _ e),
+    let e = step-refused (f _) _ _ (sym (c .before .before .item2 .given .1) ∙ c .before .before .before .before .before .before .value .ensures .0) in (
+      c .refused .ensures ∙ sym (entries-halt (a .message .now) f (a .count) (a .first) (l .i) (l .at) _ (l .inv .5) (c .before .before .before .before .before .before .before .before .before .before .before .before .before .loop-test .taken) _ _ (k .parse) _ _ e),
       dictionary-frame t (c .before .before .before .before .before .before),
     )
 
@@ -535,8 +526,7 @@ dictionary-returns-2 t c =
     let l = c .before .before .before .before .before .before .before .loop in
     let f = valueAt (a .message .now) (a .depth) in
     let e = key-refused (a .message .now) (keysOf (a .message .now) (l .scratch) (a .top) (l .i)) (l .at) _ _ (sym (c .before .before .key2 .given .1) ∙ c .before .before .before .before .read-key .ensures) in (
-      c .refused2 .ensures ∙ refused-as Tree.dictionary (entries (a .message .now) f [] (a .count) (a .first)) _ _
-          (entries-stop (a .message .now) f (a .count) (a .first) (l .i) (l .at) _ (l .inv .5) (c .before .before .before .before .before .before .loop-test .taken) _ _ e),
+      c .refused2 .ensures ∙ sym (entries-stop (a .message .now) f (a .count) (a .first) (l .i) (l .at) _ (l .inv .5) (c .before .before .before .before .before .before .loop-test .taken) _ _ e),
       l .inv .3,
     )
 
@@ -553,7 +543,7 @@ dictionary-loop-again t c =
     let f = valueAt (a .message .now) (a .depth) in
     let k = dictionary-key t (c .before .before .before .before .before .before .before .before) in
     let room = dictionary-room t (c .before .before .before .before .before .before .before .before) in
-    let e = read-value (f _) _ _ (sym (c .before .item .given .1) ∙ c .before .before .before .before .before .value .ensures .0) in
+    let e = step-to (f _) _ (sym (c .before .item .given .1) ∙ c .before .before .before .before .before .value .ensures .0) in
     let b = value-bounds (a .message .now) (a .depth) _ (e .0) _ (e .1) in (
       omega (arith, b .0, room .1),
       omega (arith, b .0, k .past, l .inv .1),
@@ -574,8 +564,7 @@ dictionary-returns-3 t c =
     let a = c .before .before .before .before .args in
     let l = c .before .loop in
     let f = valueAt (a .message .now) (a .depth) in (
-      dictionary-read (a .message .now) f (a .count) (a .first) (l .at)
-          (entries-done (a .message .now) f (a .count) (a .first) (l .i) (l .at) _ (l .inv .5) (c .loop-test .left)),
+      sym (entries-done (a .message .now) f (a .count) (a .first) (l .i) (l .at) _ (l .inv .5) (c .loop-test .left)),
       l .inv .3,
     )
 
@@ -628,7 +617,6 @@ pub +dictionary+list+structure+value-spec : {M : Type 1} → statement M
     (λ t. structure-lts.spec (structure-calls t) (structure-at t) structure.Post structure-Inv-loop structure-μ-loop
     (structure-refused-requires t)
     (structure-returns t)
-    (structure-shared-slice-read-tag t)
     (structure-add-at t)
     (structure-loop-holds t)
     (structure-value-requires t)
@@ -640,7 +628,6 @@ pub +dictionary+list+structure+value-spec : {M : Type 1} → statement M
     (structure-add-i t)
     (structure-loop-less t)
     (structure-loop-again t)
-    (structure-add-t15 t)
     (structure-same-length-2 t)
     (structure-returns-3 t))
     (λ t. value-lts.spec (value-calls t) (value-at t) value.Post
