@@ -19,8 +19,7 @@ use Rattle.packstream.specs.declared.walk.Peeked.the-variants as Pk
 use Rattle.packstream.proofs.read.Head as Head′
 use Rattle.packstream.proofs.KeySearch.{same-length}
 use Rattle.messages.specs.View.{modeNamed}
-use Rattle.messages.specs.Walk.{stringHead, entriesHead, viewHead, viewAt}
-use Rattle.messages.specs.declared.request.Text.the-variants as T
+use Rattle.messages.specs.Walk.{entriesHead, viewHead, viewAt}
 use Rattle.messages.specs.declared.request.Mode.the-variants as M
 use Rattle.messages.specs.declared.view.View.{View}
 use Rattle.messages.specs.declared.view.View.the-variants as As
@@ -30,17 +29,6 @@ use Rattle.messages.specs.declared.entries.Entries.the-variants as E
 -- the head is of one of these kinds, by their order
 abbrev pub Kinds : List ℕ → Head → Type 0
 Kinds ks h = OneOf ks (tagOf Head′.the-type h)
-
-pub not-string : (h : Head) → Kinds (0 ∷ 1 ∷ 2 ∷ 3 ∷ 4 ∷ 6 ∷ 7 ∷ 8 ∷ []) h → T.Absent ≡ stringHead h
-not-string H.Null e = refl
-not-string (H.Boolean b) e = refl
-not-string (H.Integer z) e = refl
-not-string (H.Float bits) e = refl
-not-string (H.Bytes start size) e = refl
-not-string (H.String start size) e = absurd (miss (0 ∷ 1 ∷ 2 ∷ 3 ∷ 4 ∷ 6 ∷ 7 ∷ 8 ∷ []) 5 tt e)
-not-string (H.List first n) e = refl
-not-string (H.Dictionary first n) e = refl
-not-string (H.Structure tag first n) e = refl
 
 pub not-dictionary : (h : Head) → Kinds (0 ∷ 1 ∷ 2 ∷ 3 ∷ 4 ∷ 5 ∷ 6 ∷ 8 ∷ []) h → E.None ≡ entriesHead h
 not-dictionary H.Null e = refl

@@ -34,17 +34,20 @@ const NAMES: [u8; 95] =
     *b"user_agent scheme principal credentials routing bookmarks tx_timeout tx_metadata mode db n qid ";
 
 // Where each name begins in NAMES: a space is between one and the next.
-const STARTS: [usize; 13] = [0, 11, 18, 28, 40, 48, 58, 69, 81, 86, 89, 91, 95];
+const STARTS: [usize; 12] = [0, 11, 18, 28, 40, 48, 58, 69, 81, 86, 89, 91];
 
-// Whether the `size` bytes of the message from `start` on are the name of this number.
+// The first name of each size, 12 where no name has that size.
+const FIRST: [usize; 12] = [12, 10, 9, 11, 8, 12, 1, 4, 12, 2, 0, 3];
+
+// For each name the next one of its size, 12 where there is none.
+const NEXT: [usize; 12] = [6, 12, 5, 7, 12, 12, 12, 12, 12, 12, 12, 12];
+
+// Whether the `size` bytes of the message from `start` on are the name of this number, which has that size.
 fn is_name(message: &[u8], start: usize, size: usize, number: usize) -> bool
-    requires { ⌜ (start + size ≤ length (now message)) × (number < 12) ⌝ }
+    requires { ⌜ (start + size ≤ length (now message)) × (number < 12) × (size ≡ length (nameOf number)) ⌝ }
     ensures { λ r. ⌜ r ≡ same (part (now (message .entry)) start size) (nameOf number) ⌝ }
 {
     let at = STARTS[number];
-    if STARTS[number + 1] - at != size + 1 {
-        return false;
-    }
     let mut i = 0;
     while i < size {
         if message[start + i] != NAMES[at + i] {
@@ -60,12 +63,15 @@ pub fn number_of(message: &[u8], start: usize, size: usize) -> usize
     requires { ⌜ start + size ≤ length (now message) ⌝ }
     ensures { λ r. ⌜ r ≡ indexOf (part (now (message .entry)) start size) names ⌝ }
 {
-    let mut k = 0;
+    if 11 < size {
+        return 12;
+    }
+    let mut k = FIRST[size];
     while k < 12 {
         if is_name(message, start, size, k) {
             return k;
         }
-        k += 1;
+        k = NEXT[k];
     }
     12
 }

@@ -10,7 +10,11 @@ use crate::request::Mode;
 use crate::request::Place;
 use crate::request::Span;
 use crate::request::Text;
+use packstream::extent::Extent;
+use packstream::extent::extent_at;
+use packstream::marker::is_string;
 use packstream::read::Head;
+use packstream::read::MOST_OPEN;
 use packstream::walk;
 use packstream::walk::Peeked;
 
@@ -37,16 +41,27 @@ pub struct Entry {
 pub fn string_at(message: &[u8], at: usize) -> Text
     ensures { λ r. ⌜ r ≡ stringFound (peekAt (now (message .entry)) at) ⌝ }
 {
-    let Peeked::Value(head) = walk::peek(message, at) else {
-        return Text::Absent;
-    };
-    let Head::String { start, size } = head else {
-        return Text::Absent;
-    };
-    Text::At(Span {
-        start: start,
-        size: size,
-    })
+    let extent = extent_at(message, at, MOST_OPEN);
+    match extent {
+        Extent::Leaf { kind, start, size } => {
+            if is_string(kind) {
+                return Text::At(Span {
+                    start: start,
+                    size: size,
+                });
+            }
+            Text::Absent
+        }
+        Extent::Container {
+            kind: _,
+            start: _,
+            count: _,
+        } => Text::Absent,
+        Extent::Refused {
+            refusal: _,
+            place: _,
+        } => Text::Absent,
+    }
 }
 
 // Where the first of `count` items from `first` on stands that is no String.

@@ -4,7 +4,7 @@ use Prim.Native.Nat.{_≤_, _-_, _+_}
 use native.Mathlib.Omega.{arith}
 use Rattle.slices.specs.Parts.{part}
 use Rattle.packstream.specs.Decode.{same}
-use Rattle.messages.proofs.Naming.{spaced, written, starts, startOf, begins-before, begins-inside, written-length, its-room, of-its-size, of-other-size, Comparing, comparing-none, all-equal, one-equal, one-differs}
+use Rattle.messages.proofs.Naming.{spaced, written, starts, startOf, written-length, its-room, name-is, Comparing, comparing-none, all-equal, one-equal, one-differs}
 use Rattle.messages.proofs.names.is_name.Statement.{statement}
 use Rattle.messages.proofs.names.is_name.Tie as tie
 
@@ -20,49 +20,29 @@ mul-at c = omega arith
 array-read-at : tie.Need-array-read-at Inv-loop μ-loop
 array-read-at c = omega arith
 
+loop-holds : tie.Need-loop-holds Inv-loop μ-loop
+loop-holds c = let a = c .args in (omega arith, comparing-none (a .message .now) (a .start) written (startOf (a .number)) (a .size))
+
 add-if1 : tie.Need-add-if1 Inv-loop μ-loop
 add-if1 c = omega arith
 
-mul-if1 : tie.Need-mul-if1 Inv-loop μ-loop
-mul-if1 c = omega arith
-
-array-read-if1 : tie.Need-array-read-if1 Inv-loop μ-loop
-array-read-if1 c = omega arith
-
-sub-if1 : tie.Need-sub-if1 Inv-loop μ-loop
-sub-if1 c = let l = begins-before (c .args .number) (c .pre .1) in omega arith
+shared-slice-read-if1 : tie.Need-shared-slice-read-if1 Inv-loop μ-loop
+shared-slice-read-if1 c = omega arith
 
 add-if1-2 : tie.Need-add-if1-2 Inv-loop μ-loop
-add-if1-2 c = omega arith
+add-if1-2 c = let a = c .before .before .before .args in let h = c .before .before .before .pre in
+    let r = its-room (a .number) (h .1) (a .size) (h .2) in omega (arith, written-length)
+
+array-read-if1 : tie.Need-array-read-if1 Inv-loop μ-loop
+array-read-if1 c = let a = c .before .before .before .args in let h = c .before .before .before .pre in
+    let r = its-room (a .number) (h .1) (a .size) (h .2) in omega (arith, written-length)
 
 returns : tie.Need-returns Inv-loop μ-loop
-returns c = let a = c .before .args in let h = c .before .pre in
-    sym (of-other-size (a .number) (h .1) (a .message .now) (a .start) (a .size) (h .0) (c .if1 .taken))
-
-loop-holds : tie.Need-loop-holds Inv-loop μ-loop
-loop-holds c = let a = c .before .args in (omega arith, comparing-none (a .message .now) (a .start) written (startOf (a .number)) (a .size))
-
-add-if2 : tie.Need-add-if2 Inv-loop μ-loop
-add-if2 c = omega arith
-
-shared-slice-read-if2 : tie.Need-shared-slice-read-if2 Inv-loop μ-loop
-shared-slice-read-if2 c = omega arith
-
-add-if2-2 : tie.Need-add-if2-2 Inv-loop μ-loop
-add-if2-2 c = let a = c .before .before .before .before .args in let h = c .before .before .before .before .pre in
-    let r = its-room (a .number) (h .1) (a .message .now) (a .start) (a .size) (h .0) (c .before .before .before .if1 .left) in omega (arith, written-length)
-
-array-read-if2 : tie.Need-array-read-if2 Inv-loop μ-loop
-array-read-if2 c = let a = c .before .before .before .before .args in let h = c .before .before .before .before .pre in
-    let r = its-room (a .number) (h .1) (a .message .now) (a .start) (a .size) (h .0) (c .before .before .before .if1 .left) in omega (arith, written-length)
-
-returns-2 : tie.Need-returns-2 Inv-loop μ-loop
 unfolding spaced
-returns-2 c = let a = c .before .before .before .before .before .args in let h = c .before .before .before .before .before .pre in let l = c .before .before .before .loop in
-    let e = c .before .before .before .before .if1 .left in
-    sym (ap (same (part (a .message .now) (a .start) (a .size))) (sym (of-its-size (a .number) (h .1) (a .message .now) (a .start) (a .size) (h .0) e))
+returns c = let a = c .before .before .before .before .args in let h = c .before .before .before .before .pre in let l = c .before .before .before .loop in
+    sym (ap (same (part (a .message .now) (a .start) (a .size))) (sym (name-is (a .number) (h .1) (a .size) (h .2)))
     ∙ one-differs (a .message .now) (a .start) written (startOf (a .number)) (a .size) (l .i) (l .inv .1) (c .before .before .loop-test .taken) (h .0)
-    (its-room (a .number) (h .1) (a .message .now) (a .start) (a .size) (h .0) e) (c .if2 .taken))
+    (its-room (a .number) (h .1) (a .size) (h .2)) (c .if1 .taken))
 
 add-i : tie.Need-add-i Inv-loop μ-loop
 add-i c = omega arith
@@ -72,16 +52,15 @@ loop-less c = omega arith
 
 loop-again : tie.Need-loop-again Inv-loop μ-loop
 unfolding spaced
-loop-again c = let a = c .before .before .before .before .before .args in let h = c .before .before .before .before .before .pre in let l = c .before .before .before .loop in
-    let e = c .before .before .before .before .if1 .left in (
-      omega arith,
-      one-equal (a .message .now) (a .start) written (startOf (a .number)) (a .size) (l .i) (l .inv .1) (c .before .before .loop-test .taken) (h .0)
-          (its-room (a .number) (h .1) (a .message .now) (a .start) (a .size) (h .0) e) (c .if2 .left),
-    )
+loop-again c = let a = c .before .before .before .before .args in let h = c .before .before .before .before .pre in let l = c .before .before .before .loop in (
+  omega arith,
+  one-equal (a .message .now) (a .start) written (startOf (a .number)) (a .size) (l .i) (l .inv .1) (c .before .before .loop-test .taken) (h .0)
+      (its-room (a .number) (h .1) (a .size) (h .2)) (c .if1 .left),
+)
 
-returns-3 : tie.Need-returns-3 Inv-loop μ-loop
-returns-3 c = let a = c .before .before .before .args in let h = c .before .before .before .pre in let l = c .before .loop in
-    sym (ap (same (part (a .message .now) (a .start) (a .size))) (sym (of-its-size (a .number) (h .1) (a .message .now) (a .start) (a .size) (h .0) (c .before .before .if1 .left)))
+returns-2 : tie.Need-returns-2 Inv-loop μ-loop
+returns-2 c = let a = c .before .before .args in let h = c .before .before .pre in let l = c .before .loop in
+    sym (ap (same (part (a .message .now) (a .start) (a .size))) (sym (name-is (a .number) (h .1) (a .size) (h .2)))
     ∙ all-equal (a .message .now) (a .start) written (startOf (a .number)) (a .size) (l .i) (l .inv .1) (omega arith))
 
 pub is-name-spec : {M : Type 1} → statement M
@@ -92,19 +71,13 @@ is-name-spec =
     μ-loop
     mul-at
     array-read-at
-    add-if1
-    mul-if1
-    array-read-if1
-    sub-if1
-    add-if1-2
-    returns
     loop-holds
-    add-if2
-    shared-slice-read-if2
-    add-if2-2
-    array-read-if2
-    returns-2
+    add-if1
+    shared-slice-read-if1
+    add-if1-2
+    array-read-if1
+    returns
     add-i
     loop-less
     loop-again
-    returns-3)
+    returns-2)

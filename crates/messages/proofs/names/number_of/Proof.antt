@@ -1,41 +1,55 @@
--- `messages::names::number_of` meets its contract. The loop's invariant: the names from the k-th on decide. Assumes nothing.
-use mathlib.Core.Path.{_≡_, sym, ap, _∙_}
-use Prim.Native.Nat.{_≤_, _-_, _+_}
-use native.Mathlib.Nat.{zero-add}
+-- `messages::names::number_of` meets its contract. The loop's invariant: the k-th name is the first that the key may be. Assumes nothing.
+use mathlib.Core.Path.{_≡_, sym, _∙_}
+use Prim.Native.Nat.{_-_}
 use native.Mathlib.Omega.{arith}
 use Rattle.slices.specs.Parts.{part}
-use Rattle.messages.proofs.Naming.{Finding, found-name, other-name, none-left}
+use Rattle.slices.proofs.Parts.{length-part}
+use Rattle.messages.proofs.Naming.{Finding, too-long, try-first, found-name, other-name, none-left, next-later}
 use Rattle.messages.proofs.names.number_of.Statement.{statement}
 use Rattle.messages.proofs.names.number_of.Tie as tie
 
 abbrev Inv-loop : tie.InvT-loop
-Inv-loop message start size k₀ k = (k ≤ 12) × Finding (part message start size) k
+Inv-loop message start size k₀ k = Finding (part message start size) k
 
 abbrev μ-loop : tie.MeasureT-loop
 μ-loop message start size k₀ k = 12 - k
 
+returns : tie.Need-returns Inv-loop μ-loop
+returns c = let a = c .before .before .args in too-long _ (a .size) (length-part (a .message .now) (a .start) (a .size) (c .before .before .pre)) (c .if1 .taken)
+
+mul-k : tie.Need-mul-k Inv-loop μ-loop
+mul-k c = omega arith
+
+array-read-k : tie.Need-array-read-k Inv-loop μ-loop
+array-read-k c = omega arith
+
 loop-holds : tie.Need-loop-holds Inv-loop μ-loop
-loop-holds c = (omega arith, sym (zero-add _))
+loop-holds c = let a = c .before .before .args in
+    try-first _ (a .size) (length-part (a .message .now) (a .start) (a .size) (c .before .before .pre)) (omega arith)
 
 is-name-requires : tie.Need-is-name-requires Inv-loop μ-loop
-is-name-requires c κs = (c .before .before .before .pre, c .loop-test .taken)
+is-name-requires c κs = let a = c .before .before .before .before .args in let h = c .before .before .before .before .pre in
+    (h, c .loop-test .taken, sym (length-part (a .message .now) (a .start) (a .size) h) ∙ c .before .loop .inv .sized (c .loop-test .taken))
 
-returns : tie.Need-returns Inv-loop μ-loop
-returns c = let l = c .before .before .before .loop in
-    found-name _ (l .k) (l .inv .1) (c .before .before .loop-test .taken) (sym (c .before .is-name .ensures) ∙ c .if1 .taken)
+returns-2 : tie.Need-returns-2 Inv-loop μ-loop
+returns-2 c = let l = c .before .before .before .loop in
+    found-name _ (l .k) (l .inv) (c .before .before .loop-test .taken) (sym (c .before .is-name .ensures) ∙ c .if2 .taken)
 
-add-k : tie.Need-add-k Inv-loop μ-loop
-add-k c = omega arith
+mul-k-2 : tie.Need-mul-k-2 Inv-loop μ-loop
+mul-k-2 c = omega arith
+
+array-read-k-2 : tie.Need-array-read-k-2 Inv-loop μ-loop
+array-read-k-2 c = omega arith
 
 loop-less : tie.Need-loop-less Inv-loop μ-loop
-loop-less c = omega arith
+loop-less c = let l = next-later (c .before .before .before .loop .k) (c .before .before .loop-test .taken) in omega arith
 
 loop-again : tie.Need-loop-again Inv-loop μ-loop
 loop-again c = let l = c .before .before .before .loop in
-    (omega arith, other-name _ (l .k) (l .inv .1) (c .before .before .loop-test .taken) (sym (c .before .is-name .ensures) ∙ c .if1 .left))
+    other-name _ (l .k) (l .inv) (c .before .before .loop-test .taken) (sym (c .before .is-name .ensures) ∙ c .if2 .left)
 
-returns-2 : tie.Need-returns-2 Inv-loop μ-loop
-returns-2 c = let l = c .before .loop in none-left _ (l .k) (l .inv .1) (omega arith) (l .inv .0)
+returns-3 : tie.Need-returns-3 Inv-loop μ-loop
+returns-3 c = let l = c .before .loop in none-left _ (l .k) (l .inv) (omega arith)
 
 pub number-of-spec : {M : Type 1} → statement M
 number-of-spec =
@@ -43,10 +57,14 @@ number-of-spec =
     (tie.spec
     Inv-loop
     μ-loop
+    returns
+    mul-k
+    array-read-k
     loop-holds
     is-name-requires
-    returns
-    add-k
+    returns-2
+    mul-k-2
+    array-read-k-2
     loop-less
     loop-again
-    returns-2)
+    returns-3)

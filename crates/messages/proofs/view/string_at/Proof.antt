@@ -1,43 +1,50 @@
--- `messages::view::string_at` meets its contract: by the head that is found. Assumes nothing.
-use mathlib.Core.Path.{_≡_, sym, ap, _∙_}
+-- `messages::view::string_at` meets its contract: by the extent that is found. Assumes nothing.
+use mathlib.Core.Path.{_≡_, sym, _∙_}
+use mathlib.Core.Bool.{true, false}
 use borrow.Author.Needs.{needs}
-use Rattle.packstream.specs.declared.walk.Peeked.the-variants as P
-use Rattle.messages.specs.Walk.{stringFound}
-use Rattle.messages.proofs.Viewing.{not-string}
+use Rattle.messages.proofs.Peeking.{text-at, leaf-text}
 use Rattle.messages.proofs.view.string_at.Statement.{statement}
 use Rattle.messages.proofs.view.string_at.Tie as tie
 
-peek-requires : tie.Need-peek-requires
-peek-requires c κs = search needs
+extent-at-requires : tie.Need-extent-at-requires
+extent-at-requires c κs = search needs
 
-enum-known-head : tie.Need-enum-known-head
-enum-known-head c = search needs
+enum-known-extent : tie.Need-enum-known-extent
+enum-known-extent c = search needs
+
+is-string-requires : tie.Need-is-string-requires
+is-string-requires c κs = search needs
+
+returns : tie.Need-returns
+returns c = let p = c .before .before .before in
+    leaf-text _ _ _ _ _ true (sym (p .extent .given .1) ∙ p .before .before .extent-at .ensures) (sym (c .if1 .taken) ∙ c .before .is-string .ensures)
 
 enum-told : tie.Need-enum-told
 enum-told c = search needs
 
-returns : tie.Need-returns
-returns c = ap stringFound (sym (c .enum-told .given .1) ∙ c .before .before .peek .ensures)
-
-enum-known-head-2 : tie.Need-enum-known-head-2
-enum-known-head-2 c = search needs
+enum-told-2 : tie.Need-enum-told-2
+enum-told-2 c = search needs
 
 returns-2 : tie.Need-returns-2
-returns-2 c = not-string (c .before .before .head .given .0 .0) (c .match2 .keys2)
-    ∙ ap stringFound (sym (c .before .before .head .given .1) ∙ c .before .before .before .before .peek .ensures)
+returns-2 c = let p = c .before .before .before in
+    leaf-text _ _ _ _ _ false (sym (p .extent .given .1) ∙ p .before .before .extent-at .ensures) (sym (c .if1 .left) ∙ c .before .is-string .ensures)
 
 returns-3 : tie.Need-returns-3
-returns-3 c = let p = c .before .before .before .before in
-    ap stringFound (ap P.Value (sym (c .before .head2 .given .1)) ∙ sym (p .head .given .1) ∙ p .before .before .peek .ensures)
+returns-3 c = text-at _ _ _ (sym (c .enum-told .given .1) ∙ c .before .before .extent-at .ensures)
+
+returns-4 : tie.Need-returns-4
+returns-4 c = text-at _ _ _ (sym (c .enum-told2 .given .1) ∙ c .before .before .extent-at .ensures)
 
 pub string-at-spec : {M : Type 1} → statement M
 string-at-spec =
     tie.close
     (tie.spec
-    peek-requires
-    enum-known-head
-    enum-told
+    extent-at-requires
+    enum-known-extent
+    is-string-requires
     returns
-    enum-known-head-2
+    enum-told
+    enum-told-2
     returns-2
-    returns-3)
+    returns-3
+    returns-4)
