@@ -18,5 +18,8 @@ mod wire;
 pub use connection::{pack_summary, Answered, Arrival, Connection, Failure, Outcome, Request, State, Summary, Taken};
 pub use refusal::Refusal;
 pub use requests::{read_request, Fields, Mode, RequestRead, Span, Transaction};
-pub use values::{pack_boolean, pack_dictionary, pack_integer, pack_string, pack_structure, read_message, read_value, Found, Head, MOST_OPEN};
+pub use values::{
+    pack_boolean, pack_dictionary, pack_integer, pack_string, pack_structure, read_message, read_value, Found, Head,
+    MOST_OPEN,
+};
 pub use wire::{negotiate, read_frame, write_chunks, Frame, Version};

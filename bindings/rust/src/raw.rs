@@ -165,13 +165,31 @@ pub struct Reply {
 // A slice passes as a pointer and then a length.
 extern "C" {
     pub fn meulhaton_negotiate(input: *const u8, input_length: usize) -> Agreement;
-    pub fn meulhaton_read_frame(minor: u8, input: *const u8, input_length: usize, buffer: *mut u8, buffer_length: usize) -> FrameRead;
-    pub fn meulhaton_write_chunks(message: *const u8, message_length: usize, chunk_size: usize, out: *mut u8, out_length: usize) -> Output;
+    pub fn meulhaton_read_frame(
+        minor: u8,
+        input: *const u8,
+        input_length: usize,
+        buffer: *mut u8,
+        buffer_length: usize,
+    ) -> FrameRead;
+    pub fn meulhaton_write_chunks(
+        message: *const u8,
+        message_length: usize,
+        chunk_size: usize,
+        out: *mut u8,
+        out_length: usize,
+    ) -> Output;
     pub fn meulhaton_read_message(message: *const u8, message_length: usize) -> ValueRead;
     pub fn meulhaton_read_value(message: *const u8, message_length: usize, at: usize, depth: usize) -> ValueRead;
     pub fn meulhaton_pack_boolean(value: bool, out: *mut u8, out_length: usize, at: usize) -> Output;
     pub fn meulhaton_pack_integer(number: i64, out: *mut u8, out_length: usize, at: usize) -> Output;
-    pub fn meulhaton_pack_string(text: *const u8, text_length: usize, out: *mut u8, out_length: usize, at: usize) -> Output;
+    pub fn meulhaton_pack_string(
+        text: *const u8,
+        text_length: usize,
+        out: *mut u8,
+        out_length: usize,
+        at: usize,
+    ) -> Output;
     pub fn meulhaton_pack_dictionary(count: usize, out: *mut u8, out_length: usize, at: usize) -> Output;
     pub fn meulhaton_pack_structure(tag: u8, count: usize, out: *mut u8, out_length: usize, at: usize) -> Output;
     pub fn meulhaton_read_request(minor: u8, message: *const u8, message_length: usize) -> RequestRead;

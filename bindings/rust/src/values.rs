@@ -11,14 +11,30 @@ pub enum Head {
     /// The 64 bits: `f64::from_bits` makes the number.
     Float(u64),
     /// The content: `size` bytes from `start` on.
-    Bytes { start: usize, size: usize },
-    String { start: usize, size: usize },
+    Bytes {
+        start: usize,
+        size: usize,
+    },
+    String {
+        start: usize,
+        size: usize,
+    },
     /// `count` items: the first one's marker is at `first`, and each other's where the one before it ends.
-    List { first: usize, count: usize },
+    List {
+        first: usize,
+        count: usize,
+    },
     /// `count` entries, each a key and a value, laid out in the same way.
-    Dictionary { first: usize, count: usize },
+    Dictionary {
+        first: usize,
+        count: usize,
+    },
     /// `count` fields, laid out in the same way.
-    Structure { tag: u8, first: usize, count: usize },
+    Structure {
+        tag: u8,
+        first: usize,
+        count: usize,
+    },
 }
 
 /// A value, and the offset past it.
