@@ -1,5 +1,10 @@
 //! The library's own functions and structs, as the C header has them. The modules beside this one wrap them.
-#![allow(missing_docs)]
+//!
+//! # Safety
+//!
+//! A slice passes as a pointer and then a length. The pointer is not null, also where the length is 0; so many bytes behind it stay
+//! live for the call; and what a function writes overlaps nothing else that it is lent. A connection is one whole record, lent to one
+//! call at a time. Beyond that any numbers may be passed: they are checked.
 
 #[repr(C)]
 #[derive(Clone, Copy, Debug, PartialEq, Eq)]
@@ -162,7 +167,6 @@ pub struct Reply {
     pub request: RequestImage,
 }
 
-// A slice passes as a pointer and then a length.
 extern "C" {
     pub fn meulhaton_negotiate(input: *const u8, input_length: usize) -> Agreement;
     pub fn meulhaton_read_frame(

@@ -107,6 +107,7 @@ fn fields(request: Request, f: raw::FieldsImage) -> Fields {
 /// Refuses as `read_message` does, then with 14 where it is no known request structure, with 15 where it has another number of fields,
 /// and with 16 at the first field or entry that is wrong. The connection is to be closed after each of them.
 pub fn read_request(version: Version, message: &[u8]) -> Result<RequestRead, Refusal> {
+    // SAFETY: the pointer and the length are those of one slice.
     let answer = unsafe { raw::meulhaton_read_request(version.minor(), message.as_ptr(), message.len()) };
     unless_refused(answer.refusal, answer.place, || {
         let request = Request::from_image(answer.request);
