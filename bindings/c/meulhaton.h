@@ -323,8 +323,9 @@ typedef struct {
 /* A fresh record: CONNECTED, with nothing counted, waiting or open. Refuses nothing. */
 meulhaton_connection meulhaton_fresh(void);
 
-/* A request has come. A RESET interrupts what is going on at once; before HELLO it closes the connection.
- * Answers: MEULHATON_QUEUED, or MEULHATON_CLOSED for a RESET before HELLO.
+/* A request has come. A RESET interrupts what is going on at once. In CONNECTED, until HELLO was reported a success, it closes the
+ * connection, and a HELLO that waits goes unanswered: give HELLO its turn before what comes behind it arrives.
+ * Answers: MEULHATON_QUEUED, or MEULHATON_CLOSED for a RESET in CONNECTED.
  * Refusals, in this order: 24 (also where the kind is none), 18, 16, 20, 17. */
 meulhaton_reply meulhaton_arrive(meulhaton_connection *connection, meulhaton_request request);
 

@@ -129,7 +129,7 @@ pub fn pack_summary(summary: Summary, out: &mut [u8], at: usize) -> Result<usize
 #[derive(Clone, Copy, Debug, PartialEq, Eq)]
 pub enum Arrival {
     Queued,
-    /// A RESET that came before HELLO: it was accepted, and it closed the connection.
+    /// A RESET in CONNECTED: it was accepted, and it closed the connection.
     Closed,
 }
 
@@ -197,7 +197,8 @@ impl Connection {
         self.image.waiting
     }
 
-    /// A request has come. A RESET interrupts what is going on at once; before HELLO it closes the connection.
+    /// A request has come. A RESET interrupts what is going on at once. In CONNECTED, until HELLO was reported a success, it closes the
+    /// connection, and a HELLO that waits goes unanswered: give HELLO its turn before what comes behind it arrives.
     ///
     /// Refuses, in this order, with 24 where the record breaks a standing rule, 18 where it is DEFUNCT, 16 where n or qid is out of its
     /// range, 20 where 4,294,967,295 requests were accepted, and 17 where 32 wait: then take first, and do not close.
