@@ -1,4 +1,5 @@
-/* One conversation through the C interface: handshake, HELLO, RUN, GOODBYE. Writes what the server sends, in hexadecimal.
+/* One conversation through the C interface: handshake, HELLO, a keep-alive, RUN, PULL, GOODBYE. Writes what the server sends, in
+ * hexadecimal.
  *
  *    cc -Wall -Wextra -o example bindings/c/example.c target/staticlib/libmeulhaton.a && ./example
  */

@@ -5,22 +5,25 @@
  * allocates nothing, keeps nothing between calls and does no input or output.
  *
  * What the caller owes. A slice is a pointer and a length. The pointer is not NULL, also where the length is 0; the length is that of
- * the memory behind it; what a function reads and what it writes do not overlap.
+ * the memory behind it; what a function reads and what it writes do not overlap. A connection is not NULL, and one call at a time works
+ * on it. Nothing else has to be checked first.
  *
  * What every answer has. `refusal` is 0, or the number of one of the refusals below. A refused call consumed 0 and changed nothing:
  * neither the buffer nor the connection, and but for `refusal` and `place` its answer is all zeros. `place` is an offset into the
- * message for the refusals 7 to 16, and else 0.
+ * message where a reader refuses with 7 to 16, and else 0.
  *
  * What the caller does after a refusal.
  *    4          wait: call again when more bytes have come, with all the bytes from the frame's first on.
- *    17         take first: 32 requests wait already. The connection is as it was.
+ *    17         take, and report on what is handed over, then call again: 32 requests wait already.
  *    21         call again with a larger buffer.
- *    5 to 16    close: send what was answered so far, call meulhaton_close, and drop the transport.
+ *    5 to 16    close: the requests that wait may still be taken and answered, and no other arrives; then call meulhaton_close, send
+ *               what was answered, and drop the transport.
  *    1, 2       no connection yet: 1 waits for the rest of the 20 bytes, 2 drops the transport.
  *    3          send four zeros and drop the transport.
  *    18         the connection is DEFUNCT: drop the transport.
  *    19, 22, 24 the caller's own mistake: the arguments, or the record, are not what the call takes.
  *    20         4,294,967,295 requests were accepted: close.
+ * 23 is of the trial program's lines, and no function here gives it.
  */
 #ifndef MEULHATON_H
 #define MEULHATON_H
@@ -40,10 +43,10 @@ enum {
     MEULHATON_NO_COMMON_VERSION = 3,     /* nothing in common: send four zeros */
     MEULHATON_FRAME_INCOMPLETE = 4,      /* frame incomplete: wait for more */
     MEULHATON_EMPTY_MESSAGE = 5,         /* empty message, in 4.0 */
-    MEULHATON_TOO_LONG = 6,              /* over 16,384 bytes */
+    MEULHATON_TOO_LONG = 6,              /* over 16,384 bytes; a header for more than can be */
     MEULHATON_VALUE_TRUNCATED = 7,       /* a marker, its size or tag, or its content is missing */
     MEULHATON_RESERVED_MARKER = 8,       /* a marker that stands for nothing */
-    MEULHATON_TOO_DEEP = 9,              /* a seventeenth open container */
+    MEULHATON_TOO_DEEP = 9,              /* too many open containers: a message has room for 16 */
     MEULHATON_INVALID_UTF8 = 10,         /* a String that is not UTF-8 */
     MEULHATON_KEY_NOT_STRING = 11,       /* a Dictionary's key is no String */
     MEULHATON_DUPLICATE_KEY = 12,        /* a Dictionary's key comes twice */
@@ -317,11 +320,12 @@ typedef struct {
     uint8_t number;
 } meulhaton_outcome;
 
-/* A fresh record: CONNECTED, with nothing counted, waiting or open. */
+/* A fresh record: CONNECTED, with nothing counted, waiting or open. Refuses nothing. */
 meulhaton_connection meulhaton_fresh(void);
 
-/* A request has come. A RESET interrupts what is going on at once; before HELLO it closes the connection.
- * Answers: MEULHATON_QUEUED, or MEULHATON_CLOSED for a RESET before HELLO.
+/* A request has come. A RESET interrupts what is going on at once. In CONNECTED, until HELLO was reported a success, it closes the
+ * connection, and a HELLO that waits goes unanswered: give HELLO its turn before what comes behind it arrives.
+ * Answers: MEULHATON_QUEUED, or MEULHATON_CLOSED for a RESET in CONNECTED.
  * Refusals, in this order: 24 (also where the kind is none), 18, 16, 20, 17. */
 meulhaton_reply meulhaton_arrive(meulhaton_connection *connection, meulhaton_request request);
 

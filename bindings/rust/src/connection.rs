@@ -64,7 +64,7 @@ impl Request {
     }
 }
 
-/// How the engine ended a request: with success, with success and more to fetch (PULL and DISCARD only), or not at all.
+/// How the engine ended a request: with success, with success and more to fetch (PULL and DISCARD only), or with failure.
 #[derive(Clone, Copy, Debug, PartialEq, Eq, Hash)]
 pub enum Outcome {
     Success,
@@ -121,6 +121,7 @@ impl Summary {
 /// Packs a summary from `at` on, and says the offset past it. 60 bytes hold every summary. Refuses with 21 where it does not fit, and
 /// has then written nothing.
 pub fn pack_summary(summary: Summary, out: &mut [u8], at: usize) -> Result<usize, Refusal> {
+    // SAFETY: the pointer and the length are those of one slice.
     packed(unsafe { raw::meulhaton_pack_summary(summary.to_image(), out.as_mut_ptr(), out.len(), at) })
 }
 
@@ -128,7 +129,7 @@ pub fn pack_summary(summary: Summary, out: &mut [u8], at: usize) -> Result<usize
 #[derive(Clone, Copy, Debug, PartialEq, Eq)]
 pub enum Arrival {
     Queued,
-    /// A RESET that came before HELLO: it was accepted, and it closed the connection.
+    /// A RESET in CONNECTED: it was accepted, and it closed the connection.
     Closed,
 }
 
@@ -161,6 +162,7 @@ pub struct Connection {
 impl Connection {
     /// A fresh record: CONNECTED, with nothing counted, waiting or open.
     pub fn fresh() -> Connection {
+        // SAFETY: nothing is lent.
         Connection { image: unsafe { raw::meulhaton_fresh() } }
     }
 
@@ -195,11 +197,13 @@ impl Connection {
         self.image.waiting
     }
 
-    /// A request has come. A RESET interrupts what is going on at once; before HELLO it closes the connection.
+    /// A request has come. A RESET interrupts what is going on at once. In CONNECTED, until HELLO was reported a success, it closes the
+    /// connection, and a HELLO that waits goes unanswered: give HELLO its turn before what comes behind it arrives.
     ///
     /// Refuses, in this order, with 24 where the record breaks a standing rule, 18 where it is DEFUNCT, 16 where n or qid is out of its
     /// range, 20 where 4,294,967,295 requests were accepted, and 17 where 32 wait: then take first, and do not close.
     pub fn arrive(&mut self, request: Request) -> Result<Arrival, Refusal> {
+        // SAFETY: the pointer is that of one whole record, lent to this call alone.
         let reply = unsafe { raw::meulhaton_arrive(&mut self.image, request.to_image()) };
         unless_refused(reply.refusal, reply.place, || match reply.said {
             1 => Arrival::Queued,
@@ -212,6 +216,7 @@ impl Connection {
     ///
     /// Refuses with 24, then with 18.
     pub fn take(&mut self) -> Result<Taken, Refusal> {
+        // SAFETY: the pointer is that of one whole record, lent to this call alone.
         let reply = unsafe { raw::meulhaton_take(&mut self.image) };
         unless_refused(reply.refusal, reply.place, || match reply.said {
             2 => Taken::Closed,
@@ -227,6 +232,7 @@ impl Connection {
     /// Refuses with 24, then with 18, then with 19 where no request is in flight, or where there is more for a request that has none.
     pub fn report(&mut self, outcome: Outcome) -> Result<Answered, Refusal> {
         let outcome = raw::OutcomeImage { number: outcome as u8 };
+        // SAFETY: the pointer is that of one whole record, lent to this call alone.
         let reply = unsafe { raw::meulhaton_report(&mut self.image, outcome) };
         unless_refused(reply.refusal, reply.place, || answered(reply))
     }
@@ -235,6 +241,7 @@ impl Connection {
     ///
     /// Refuses with 24, then with 18.
     pub fn close(&mut self) -> Result<(), Refusal> {
+        // SAFETY: the pointer is that of one whole record, lent to this call alone.
         let reply = unsafe { raw::meulhaton_close(&mut self.image) };
         unless_refused(reply.refusal, reply.place, || ())
     }

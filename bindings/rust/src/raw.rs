@@ -1,5 +1,10 @@
 //! The library's own functions and structs, as the C header has them. The modules beside this one wrap them.
-#![allow(missing_docs)]
+//!
+//! # Safety
+//!
+//! A slice passes as a pointer and then a length. The pointer is not null, also where the length is 0; so many bytes behind it stay
+//! live for the call; and what a function writes overlaps nothing else that it is lent. A connection is one whole record, lent to one
+//! call at a time. Beyond that any numbers may be passed: they are checked.
 
 #[repr(C)]
 #[derive(Clone, Copy, Debug, PartialEq, Eq)]
@@ -162,16 +167,33 @@ pub struct Reply {
     pub request: RequestImage,
 }
 
-// A slice passes as a pointer and then a length.
 extern "C" {
     pub fn meulhaton_negotiate(input: *const u8, input_length: usize) -> Agreement;
-    pub fn meulhaton_read_frame(minor: u8, input: *const u8, input_length: usize, buffer: *mut u8, buffer_length: usize) -> FrameRead;
-    pub fn meulhaton_write_chunks(message: *const u8, message_length: usize, chunk_size: usize, out: *mut u8, out_length: usize) -> Output;
+    pub fn meulhaton_read_frame(
+        minor: u8,
+        input: *const u8,
+        input_length: usize,
+        buffer: *mut u8,
+        buffer_length: usize,
+    ) -> FrameRead;
+    pub fn meulhaton_write_chunks(
+        message: *const u8,
+        message_length: usize,
+        chunk_size: usize,
+        out: *mut u8,
+        out_length: usize,
+    ) -> Output;
     pub fn meulhaton_read_message(message: *const u8, message_length: usize) -> ValueRead;
     pub fn meulhaton_read_value(message: *const u8, message_length: usize, at: usize, depth: usize) -> ValueRead;
     pub fn meulhaton_pack_boolean(value: bool, out: *mut u8, out_length: usize, at: usize) -> Output;
     pub fn meulhaton_pack_integer(number: i64, out: *mut u8, out_length: usize, at: usize) -> Output;
-    pub fn meulhaton_pack_string(text: *const u8, text_length: usize, out: *mut u8, out_length: usize, at: usize) -> Output;
+    pub fn meulhaton_pack_string(
+        text: *const u8,
+        text_length: usize,
+        out: *mut u8,
+        out_length: usize,
+        at: usize,
+    ) -> Output;
     pub fn meulhaton_pack_dictionary(count: usize, out: *mut u8, out_length: usize, at: usize) -> Output;
     pub fn meulhaton_pack_structure(tag: u8, count: usize, out: *mut u8, out_length: usize, at: usize) -> Output;
     pub fn meulhaton_read_request(minor: u8, message: *const u8, message_length: usize) -> RequestRead;

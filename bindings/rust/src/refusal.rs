@@ -1,13 +1,13 @@
 //! Why a call was refused.
 use std::fmt;
 
-/// A refusal: its number in document 01's table, and for 7 to 16 an offset into the message, else 0. A refused call consumed nothing
-/// and changed nothing.
+/// A refusal: its number in document 01's table, and an offset into the message where a reader refuses with 7 to 16, else 0. A refused
+/// call consumed nothing and changed nothing.
 #[derive(Clone, Copy, Debug, PartialEq, Eq, Hash)]
 pub struct Refusal {
     /// 1 to 22, or 24.
     pub number: u8,
-    /// Where in the message.
+    /// Where in the message; 0 where there is no place.
     pub place: usize,
 }
 

@@ -31,8 +31,18 @@ pub struct Transaction {
 /// The fields of a request.
 #[derive(Clone, Copy, Debug, PartialEq, Eq)]
 pub enum Fields {
-    Hello { user_agent: Span, scheme: Option<Span>, principal: Option<Span>, credentials: Option<Span>, routing: Option<usize> },
-    Run { query: Span, parameters: usize, transaction: Transaction },
+    Hello {
+        user_agent: Span,
+        scheme: Option<Span>,
+        principal: Option<Span>,
+        credentials: Option<Span>,
+        routing: Option<usize>,
+    },
+    Run {
+        query: Span,
+        parameters: usize,
+        transaction: Transaction,
+    },
     Begin(Transaction),
     /// The other requests have none but n and qid, which `Request` carries.
     None,
@@ -82,7 +92,11 @@ fn fields(request: Request, f: raw::FieldsImage) -> Fields {
             credentials: text(f.hello.credentials),
             routing: place(f.hello.routing),
         },
-        Request::Run => Fields::Run { query: span(f.run.query), parameters: f.run.parameters.offset as usize, transaction: transaction(f.transaction) },
+        Request::Run => Fields::Run {
+            query: span(f.run.query),
+            parameters: f.run.parameters.offset as usize,
+            transaction: transaction(f.transaction),
+        },
         Request::Begin => Fields::Begin(transaction(f.transaction)),
         _ => Fields::None,
     }
@@ -93,6 +107,7 @@ fn fields(request: Request, f: raw::FieldsImage) -> Fields {
 /// Refuses as `read_message` does, then with 14 where it is no known request structure, with 15 where it has another number of fields,
 /// and with 16 at the first field or entry that is wrong. The connection is to be closed after each of them.
 pub fn read_request(version: Version, message: &[u8]) -> Result<RequestRead, Refusal> {
+    // SAFETY: the pointer and the length are those of one slice.
     let answer = unsafe { raw::meulhaton_read_request(version.minor(), message.as_ptr(), message.len()) };
     unless_refused(answer.refusal, answer.place, || {
         let request = Request::from_image(answer.request);

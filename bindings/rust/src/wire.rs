@@ -27,6 +27,7 @@ impl Version {
 /// Refuses with 2 where a byte of the preamble is wrong, else with 1 where fewer than twenty bytes are there, else with 3 where no
 /// proposal is known: the server then sends four zeros.
 pub fn negotiate(input: &[u8]) -> Result<Version, Refusal> {
+    // SAFETY: the pointer and the length are those of one slice.
     let answer = unsafe { raw::meulhaton_negotiate(input.as_ptr(), input.len()) };
     unless_refused(answer.refusal, answer.place, || match answer.minor {
         0 => Version::V4_0,
@@ -52,7 +53,10 @@ pub enum Frame {
 /// it over the buffer, with 5 at an empty message in 4.0, and with 4 where the frame is incomplete: call again when more bytes have
 /// come. The connection is to be closed after 5 and 6, not after 4 and 21.
 pub fn read_frame(version: Version, input: &[u8], buffer: &mut [u8]) -> Result<Frame, Refusal> {
-    let answer = unsafe { raw::meulhaton_read_frame(version.minor(), input.as_ptr(), input.len(), buffer.as_mut_ptr(), buffer.len()) };
+    // SAFETY: each pointer and its length are those of one slice, and the slices do not overlap.
+    let answer = unsafe {
+        raw::meulhaton_read_frame(version.minor(), input.as_ptr(), input.len(), buffer.as_mut_ptr(), buffer.len())
+    };
     let consumed = answer.consumed as usize;
     unless_refused(answer.refusal, answer.place, || match answer.kind {
         1 => Frame::Message { length: answer.length as usize, consumed },
@@ -67,6 +71,9 @@ pub fn read_frame(version: Version, input: &[u8], buffer: &mut [u8]) -> Result<F
 /// Refuses with 22 where the message is empty or the chunk size is not 1 to 65,535, then with 6 where the message has over 16,384 bytes,
 /// then with 21 where the whole output is longer than `out`.
 pub fn write_chunks(message: &[u8], chunk_size: usize, out: &mut [u8]) -> Result<usize, Refusal> {
-    let answer = unsafe { raw::meulhaton_write_chunks(message.as_ptr(), message.len(), chunk_size, out.as_mut_ptr(), out.len()) };
+    // SAFETY: each pointer and its length are those of one slice, and the slices do not overlap.
+    let answer = unsafe {
+        raw::meulhaton_write_chunks(message.as_ptr(), message.len(), chunk_size, out.as_mut_ptr(), out.len())
+    };
     unless_refused(answer.refusal, answer.place, || answer.end as usize)
 }

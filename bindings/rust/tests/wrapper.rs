@@ -28,7 +28,10 @@ fn frames() {
     assert_eq!(read_frame(Version::V4_2, &[0x40, 1], &mut buffer), Err(refused(6, 0)));
     assert_eq!(read_frame(Version::V4_2, &[0, 5], &mut buffer), Err(refused(21, 0)));
     assert_eq!(buffer, [0xEE; 4]);
-    assert_eq!(read_frame(Version::V4_1, &[0, 1, 0xC0, 0, 0, 7], &mut buffer), Ok(Frame::Message { length: 1, consumed: 5 }));
+    assert_eq!(
+        read_frame(Version::V4_1, &[0, 1, 0xC0, 0, 0, 7], &mut buffer),
+        Ok(Frame::Message { length: 1, consumed: 5 })
+    );
     assert_eq!(buffer, [0xC0, 0xEE, 0xEE, 0xEE]);
     assert_eq!(unsafe { raw::meulhaton_read_frame(3, [0u8, 0].as_ptr(), 2, buffer.as_mut_ptr(), 4) }.refusal, 24);
 }
@@ -112,10 +115,17 @@ fn packing() {
 fn requests() {
     let read = |message: &[u8]| read_request(Version::V4_1, message);
     let hello = b"\xB1\x01\xA2\x8Auser_agent\x83P/1\x87routing\xA0";
-    let fields = Fields::Hello { user_agent: Span { start: 15, size: 3 }, scheme: None, principal: None, credentials: None, routing: Some(26) };
+    let fields = Fields::Hello {
+        user_agent: Span { start: 15, size: 3 },
+        scheme: None,
+        principal: None,
+        credentials: None,
+        routing: Some(26),
+    };
     assert_eq!(read(hello), Ok(RequestRead { request: Request::Hello, fields }));
     let run = b"\xB3\x10\x81R\xA0\xA2\x84mode\x81w\x8Atx_timeout\x05";
-    let transaction = Transaction { bookmarks: None, tx_timeout: Some(5), tx_metadata: None, mode: Some(Mode::Write), db: None };
+    let transaction =
+        Transaction { bookmarks: None, tx_timeout: Some(5), tx_metadata: None, mode: Some(Mode::Write), db: None };
     let fields = Fields::Run { query: Span { start: 3, size: 1 }, parameters: 4, transaction };
     assert_eq!(read(run), Ok(RequestRead { request: Request::Run, fields }));
     let absent = Transaction { bookmarks: None, tx_timeout: None, tx_metadata: None, mode: None, db: None };

@@ -1,7 +1,7 @@
 //! A conversation over the library: bytes are gathered until there is a frame, its request arrives, and whatever
 //! waits gets its turn and its summary.
 
-use meulhaton::{Arrival, Connection, Frame, Outcome, Refusal, Request, Summary, Taken, Version};
+use meulhaton::{Arrival, Connection, Frame, Outcome, Refusal, Request, State, Summary, Taken, Version};
 use std::io::{self, Read, Write};
 
 const HANDSHAKE_SHORT: u8 = 1;
@@ -127,6 +127,8 @@ impl<'o, W: Write> Conversation<'o, W> {
         let Ok(read) = meulhaton::read_request(self.version, &self.message[..length]) else { return Ok(Next::Close) };
         loop {
             match self.connection.arrive(read.request) {
+                // HELLO gets its turn at once: a RESET that arrives before it has had it closes the connection.
+                Ok(Arrival::Queued) if self.connection.state() == Some(State::Connected) => return self.answer(),
                 Ok(Arrival::Queued) => return Ok(Next::ReadMore),
                 Err(Refusal { number: QUEUE_FULL, .. }) => {
                     if self.answer()? == Next::Close {

@@ -259,7 +259,7 @@ fn messages_up_to_the_longest() {
     }
 }
 
-/// The answers to `exchanges` once the HELLO before them was answered: a RESET before that would close.
+/// The answers to `exchanges`, which are sent once the HELLO before them was answered.
 fn answers_after_hello(exchanges: &[Exchange], cut: impl FnOnce(&[u8]) -> Vec<Vec<u8>>) -> Vec<Vec<u8>> {
     let mut random = Random(11);
     let first = raw(&mut random, 1, &[hello()]);
@@ -267,6 +267,17 @@ fn answers_after_hello(exchanges: &[Exchange], cut: impl FnOnce(&[u8]) -> Vec<Ve
     let mut answers = messages(1, &talk_after(&first, 4 + frame(SUCCESS, 9).len(), cut(&bytes)));
     assert_eq!(answers.remove(0), SUCCESS);
     answers
+}
+
+/// HELLO is answered before the RESET behind it, wherever the input is cut.
+#[test]
+fn reset_right_behind_hello() {
+    let exchanges = [hello(), reset(), run("part", SUCCESS), pull()];
+    for seed in 1..9 {
+        assert_eq!(answers(&mut Random(seed), 1, &exchanges), expected(&exchanges));
+    }
+    let bytes = raw(&mut Random(12), 1, &exchanges);
+    assert_eq!(messages(1, &talk(vec![bytes])), expected(&exchanges));
 }
 
 #[test]
@@ -362,6 +373,26 @@ fn closes_where_a_request_does_not_fit_the_state() {
     let exchanges = [hello(), exchange(commit().request, []), run("part", SUCCESS)];
     assert_eq!(answers(&mut Random(8), 1, &exchanges), [SUCCESS]);
     assert_eq!(answers(&mut Random(8), 1, &[exchange(reset().request, []), hello()]), Vec::<Vec<u8>>::new());
+}
+
+#[test]
+fn nothing_is_answered_behind_goodbye() {
+    let exchanges = [hello(), goodbye(), run("part", SUCCESS), exchange([0xEF], [])];
+    for seed in 1..9 {
+        assert_eq!(answers(&mut Random(seed), 1, &exchanges), [SUCCESS]);
+    }
+}
+
+/// What is whole is answered, and the rest of a message that never comes is not waited for.
+#[test]
+fn input_that_ends_in_a_message() {
+    let whole = [hello(), run("part", SUCCESS)];
+    let before = raw(&mut Random(13), 1, &whole);
+    let last = frame(&pull().request, 4);
+    for end in 1..last.len() {
+        let bytes = [&before[..], &last[..end]].concat();
+        assert_eq!(messages(1, &talk(vec![bytes])), expected(&whole));
+    }
 }
 
 #[test]

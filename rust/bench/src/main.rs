@@ -11,7 +11,7 @@ use std::hint::black_box;
 
 fn main() {
     println!("{}\n", machine());
-    println!("{:66} {:>11} {:>11} {:>7}", "", "library", "other", "ratio");
+    println!("{:70} {:>11} {:>11} {:>7}", "", "library", "other", "ratio");
     values();
     requests();
     text();
@@ -28,7 +28,7 @@ fn machine() -> String {
 }
 
 fn row(what: &str, other: &str, Comparison { first, second, ratio }: Comparison) {
-    println!("{:66} {:>11} {:>11} {ratio:>7.2}", format!("{what} / {other}"), duration(first), duration(second));
+    println!("{:70} {:>11} {:>11} {ratio:>7.2}", format!("{what} / {other}"), duration(first), duration(second));
 }
 
 fn duration(nanoseconds: f64) -> String {

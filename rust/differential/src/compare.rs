@@ -188,7 +188,8 @@ impl<'s, A: Side, B: Side> Comparison<'s, A, B> {
     pub fn value(&mut self) -> std::result::Result<(), Difference> {
         let message = self.input();
         self.value_of(&message)?;
-        let (at, depth) = (self.random.below(message.len() + 3), self.random.pick(&[0, 1, 2, 3, 15, 16]));
+        let at = if self.random.once_in(50) { usize::MAX } else { self.random.below(message.len() + 3) };
+        let depth = self.random.pick(&[0, 1, 2, 3, 15, 16, 17, usize::MAX]);
         self.value_at(&message, at, depth).map(drop)
     }
 
@@ -254,10 +255,14 @@ impl<'s, A: Side, B: Side> Comparison<'s, A, B> {
             _ => {}
         }
         let failures = [Failure::StreamFull, Failure::StreamUnknown, Failure::EngineFailed];
-        let item = match random.below(9) {
+        let few = random.length(300);
+        let count = random.pick(&[few, few, 15, 16, 255, 256, 16_384, 16_385, 65_536, usize::MAX]);
+        let item = match random.below(11) {
             0 => Item::Boolean(random.once_in(2)),
             1..=3 => Item::Integer(random.integer()),
             4..=6 => Item::String(&text),
+            7 => Item::Dictionary(count),
+            8 => Item::Structure(random.byte(), if random.once_in(4) { count } else { random.below(17) }),
             _ => Item::Summary(match random.below(6) {
                 0 => Summary::Success,
                 1 => Summary::Ignored,
@@ -269,6 +274,7 @@ impl<'s, A: Side, B: Side> Comparison<'s, A, B> {
         let at = random.length(40);
         let needed = at + if let Item::String(text) = item { text.len() + 3 } else { 60 };
         let room = if random.once_in(3) { random.below(needed) } else { needed };
+        let at = if random.once_in(50) { usize::MAX } else { at };
         self.equal_writing(
             || format!("packing at {at} room {room} {item:?}"),
             room,

@@ -48,6 +48,8 @@ impl Side for Library {
             Item::Boolean(value) => proved::pack_boolean(value, buffer, at),
             Item::Integer(number) => proved::pack_integer(number, buffer, at),
             Item::String(text) => proved::pack_string(text, buffer, at),
+            Item::Dictionary(entries) => proved::pack_dictionary(entries, buffer, at),
+            Item::Structure(tag, fields) => proved::pack_structure(tag, fields, buffer, at),
             Item::Summary(summary) => proved::pack_summary(to_summary(summary), buffer, at),
         }
         .map_err(refusal)

@@ -84,6 +84,7 @@ mod tests {
         AlwaysNull,
         AbsentIsZero,
         NegativeIsWide,
+        SixteenFields,
         AlwaysIdle,
         LosesCount,
     }
@@ -141,6 +142,9 @@ mod tests {
                     room.copy_from_slice(&[0xC8, number as u8]);
                     Ok(at + 2)
                 }
+                Item::Structure(tag, 16) if *self == Fault::SixteenFields => {
+                    Reference.pack(Item::Structure(tag, 0), buffer, at)
+                }
                 _ => Reference.pack(item, buffer, at),
             }
         }
@@ -177,6 +181,7 @@ mod tests {
             AlwaysNull,
             AbsentIsZero,
             NegativeIsWide,
+            SixteenFields,
             AlwaysIdle,
             LosesCount,
         ] {

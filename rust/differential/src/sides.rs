@@ -106,6 +106,10 @@ pub enum Item<'a> {
     Boolean(bool),
     Integer(i64),
     String(&'a [u8]),
+    /// The header of a Dictionary of so many entries.
+    Dictionary(usize),
+    /// The header of a Structure: its tag, and how many fields.
+    Structure(u8, usize),
     Summary(Summary),
 }
 
@@ -158,6 +162,8 @@ impl Side for Reference {
             Item::Boolean(value) => pack::boolean(value, behind),
             Item::Integer(number) => pack::integer(number, behind),
             Item::String(text) => pack::string(text, behind),
+            Item::Dictionary(entries) => pack::dictionary_header(entries, behind),
+            Item::Structure(tag, fields) => pack::structure_header(fields, tag, behind),
             Item::Summary(summary) => pack::summary(summary, behind),
         }?;
         Ok(at + length)

@@ -46,11 +46,11 @@ pub fn read(message: &[u8]) -> Result<Value<'_>> {
     Ok(value)
 }
 
-/// Reads the value whose marker is at `at`, with room for `depth` open containers, and answers the offset behind it.
-/// What follows is not looked at. Refusals: 6, then 7 to 12.
+/// Reads the value whose marker is at `at`, with room for `depth` open containers but never more than a message has,
+/// and answers the offset behind it. What follows is not looked at. Refusals: 6, then 7 to 12.
 pub fn read_at(message: &[u8], at: usize, depth: usize) -> Result<(Value<'_>, usize)> {
     let mut reader = Reader { at: at.min(message.len()), ..Reader::new(message)? };
-    let value = reader.value(depth)?;
+    let value = reader.value(depth.min(DEPTH_MAX))?;
     Ok((value, reader.at))
 }
 

@@ -1,0 +1,127 @@
+/* Each function of the header once, on cases of document 01, with what a refused call leaves as it was. Writes nothing where all hold.
+ *
+ *    cc -Wall -Wextra -o test bindings/c/test.c target/staticlib/libmeulhaton.a && ./test
+ */
+#include "meulhaton.h"
+
+#include <stdio.h>
+#include <string.h>
+
+static int failed = 0;
+
+#define HOLDS(what)                                                  \
+    do {                                                             \
+        if (!(what)) {                                               \
+            fprintf(stderr, "line %d: %s\n", __LINE__, #what);       \
+            failed = 1;                                              \
+        }                                                            \
+    } while (0)
+
+/* A string literal as a slice. */
+#define BYTES(text) (const uint8_t *)(text), sizeof(text) - 1
+
+static bool is(const uint8_t *found, const char *expected, size_t length) {
+    return memcmp(found, expected, length) == 0;
+}
+
+static void wire(void) {
+    uint8_t buffer[4] = "\xEE\xEE\xEE";
+    HOLDS(meulhaton_negotiate(BYTES("\x60\x60\xB0\x17\0\0\3\4\0\0\2\4\0\0\0\0\0\0\0\0")).minor == 2);
+    HOLDS(meulhaton_negotiate(BYTES("")).refusal == MEULHATON_HANDSHAKE_TRUNCATED);
+    HOLDS(meulhaton_read_frame(0, BYTES("\0\0"), buffer, 3).refusal == MEULHATON_EMPTY_MESSAGE);
+    HOLDS(meulhaton_read_frame(3, BYTES("\0\0"), buffer, 3).refusal == MEULHATON_INVALID_RECORD);
+    HOLDS(is(buffer, "\xEE\xEE\xEE", 3));
+    meulhaton_frame frame = meulhaton_read_frame(1, BYTES("\0\0"), buffer, 3);
+    HOLDS(frame.refusal == 0 && frame.kind == MEULHATON_KEEP_ALIVE && frame.length == 0 && frame.consumed == 2);
+    frame = meulhaton_read_frame(1, BYTES("\0\1\xC0\0\0\7"), buffer, 3);
+    HOLDS(frame.refusal == 0 && frame.kind == MEULHATON_MESSAGE && frame.length == 1 && frame.consumed == 5);
+    HOLDS(is(buffer, "\xC0\xEE\xEE", 3));
+    uint8_t out[9];
+    meulhaton_output written = meulhaton_write_chunks(BYTES("\1\2\3"), 2, out, sizeof out);
+    HOLDS(written.refusal == 0 && written.end == 9 && is(out, "\0\2\1\2\0\1\3\0\0", 9));
+    HOLDS(meulhaton_write_chunks(BYTES("\1\2\3"), 65536, out, sizeof out).refusal == MEULHATON_INVALID_CHUNKING);
+}
+
+static void values(void) {
+    meulhaton_value value = meulhaton_read_message(BYTES("\xC8\x80"));
+    HOLDS(value.refusal == 0 && value.end == 2 && value.head.kind == MEULHATON_INTEGER && value.head.integer == -128);
+    value = meulhaton_read_message(BYTES("\xC1\x3F\xF0\0\0\0\0\0\0"));
+    HOLDS(value.head.kind == MEULHATON_FLOAT && value.head.bits == UINT64_C(0x3FF0000000000000));
+    value = meulhaton_read_message(BYTES("\xB1\x70\xA0"));
+    HOLDS(value.head.kind == MEULHATON_STRUCTURE && value.head.tag == 0x70 && value.head.start == 2 && value.head.size == 1);
+    value = meulhaton_read_message(BYTES("\xA2\x81\x61\x01\xD0\x01\x61\x02"));
+    HOLDS(value.refusal == MEULHATON_DUPLICATE_KEY && value.place == 4 && value.end == 0 && value.head.kind == 0);
+    value = meulhaton_read_value(BYTES("\x92\xC3\x81\x61"), 1, 0);
+    HOLDS(value.refusal == 0 && value.end == 2 && value.head.kind == MEULHATON_BOOLEAN && value.head.boolean == 1);
+    HOLDS(meulhaton_read_value(BYTES("\x92\xC3\x81\x61"), 0, 0).refusal == MEULHATON_TOO_DEEP);
+
+    uint8_t out[8] = {0};
+    HOLDS(meulhaton_pack_structure(0x70, 1, out, sizeof out, 0).end == 2);
+    HOLDS(meulhaton_pack_dictionary(1, out, sizeof out, 2).end == 3);
+    HOLDS(meulhaton_pack_string(BYTES("qid"), out, sizeof out, 3).end == 7);
+    HOLDS(meulhaton_pack_integer(5, out, sizeof out, 7).end == 8);
+    HOLDS(is(out, "\xB1\x70\xA1\x83qid\x05", 8));
+    HOLDS(meulhaton_pack_boolean(true, out, sizeof out, 8).refusal == MEULHATON_NO_ROOM);
+    HOLDS(meulhaton_pack_string(BYTES("\x80"), out, sizeof out, 0).refusal == MEULHATON_INVALID_UTF8);
+    HOLDS(meulhaton_pack_structure(0x70, 16, out, sizeof out, 0).refusal == MEULHATON_TOO_LONG);
+    HOLDS(is(out, "\xB1\x70\xA1\x83qid\x05", 8));
+    HOLDS(meulhaton_pack_boolean(true, out, sizeof out, 7).end == 8 && out[7] == 0xC3);
+    meulhaton_summary summary = {MEULHATON_SUCCESS_QID, 5};
+    HOLDS(meulhaton_pack_summary(summary, out, sizeof out, 0).end == 8 && is(out, "\xB1\x70\xA1\x83qid\x05", 8));
+    summary.kind = 8;
+    HOLDS(meulhaton_pack_summary(summary, out, sizeof out, 0).refusal == MEULHATON_INVALID_RECORD);
+}
+
+static void requests(void) {
+    meulhaton_request_read read = meulhaton_read_request(1, BYTES("\xB1\x01\xA2\x8Auser_agent\x83P/1\x87routing\xA0"));
+    HOLDS(read.refusal == 0 && read.request.kind == MEULHATON_HELLO && !read.fields.hello.scheme.present);
+    HOLDS(read.fields.hello.user_agent.present && read.fields.hello.user_agent.start == 15);
+    HOLDS(read.fields.hello.user_agent.size == 3 && read.fields.hello.routing.offset == 26);
+    read = meulhaton_read_request(0, BYTES("\xB3\x10\x81R\xA0\xA3\x84mode\x81w\x8Atx_timeout\x05\x82" "db\x81p"));
+    HOLDS(read.request.kind == MEULHATON_RUN && read.fields.run.query.start == 3 && read.fields.run.parameters.offset == 4);
+    HOLDS(read.fields.transaction.mode == MEULHATON_MODE_WRITE && read.fields.transaction.tx_timeout.value == 5);
+    HOLDS(read.fields.transaction.db.size == 1 && !read.fields.transaction.bookmarks.present);
+    read = meulhaton_read_request(0, BYTES("\xB1\x3F\xA1\x81n\x00"));
+    HOLDS(read.refusal == MEULHATON_INVALID_FIELD && read.place == 5 && read.request.kind == 0);
+}
+
+/* Padding aside. */
+static bool same(const meulhaton_connection *a, const meulhaton_connection *b) {
+    for (size_t i = 0; i < 32; i++) {
+        const meulhaton_request *p = &a->requests[i], *q = &b->requests[i];
+        if (p->kind != q->kind || p->n != q->n || p->qid != q->qid) return false;
+    }
+    return a->state == b->state && a->in_flight == b->in_flight && a->waiting == b->waiting && a->opened == b->opened && a->next == b->next &&
+           a->accepted == b->accepted && a->sent == b->sent && memcmp(a->streams, b->streams, sizeof a->streams) == 0;
+}
+
+static void calls(void) {
+    meulhaton_connection connection = meulhaton_fresh(), before;
+    HOLDS(connection.state == MEULHATON_CONNECTED && connection.waiting == 0 && connection.next == 0);
+    HOLDS(meulhaton_arrive(&connection, (meulhaton_request){MEULHATON_HELLO, 0, 0}).said == MEULHATON_QUEUED);
+    meulhaton_reply reply = meulhaton_take(&connection);
+    HOLDS(reply.said == MEULHATON_HANDED && reply.number == 1 && reply.request.kind == MEULHATON_HELLO);
+    HOLDS(meulhaton_take(&connection).said == MEULHATON_IDLE);
+    before = connection;
+    HOLDS(meulhaton_report(&connection, (meulhaton_outcome){MEULHATON_OUTCOME_MORE}).refusal == MEULHATON_UNEXPECTED_REPORT);
+    HOLDS(meulhaton_report(&connection, (meulhaton_outcome){3}).refusal == MEULHATON_INVALID_RECORD);
+    HOLDS(meulhaton_arrive(&connection, (meulhaton_request){MEULHATON_PULL, 0, -1}).refusal == MEULHATON_INVALID_FIELD);
+    HOLDS(same(&connection, &before));
+    reply = meulhaton_report(&connection, (meulhaton_outcome){MEULHATON_OUTCOME_SUCCESS});
+    HOLDS(reply.said == MEULHATON_ANSWERED && reply.number == 1 && reply.summary.kind == MEULHATON_SUCCESS);
+    HOLDS(connection.state == MEULHATON_READY && connection.accepted == 1 && connection.sent == 1);
+    before = connection;
+    connection.state = 8;
+    HOLDS(meulhaton_take(&connection).refusal == MEULHATON_INVALID_RECORD);
+    connection = before;
+    HOLDS(meulhaton_close(&connection).said == MEULHATON_CLOSED && connection.state == MEULHATON_DEFUNCT);
+    HOLDS(meulhaton_close(&connection).refusal == MEULHATON_CONNECTION_DEFUNCT);
+}
+
+int main(void) {
+    wire();
+    values();
+    requests();
+    calls();
+    return failed;
+}
