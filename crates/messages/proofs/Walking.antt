@@ -6,6 +6,7 @@ use native.Mathlib.Omega.{arith}
 use lib.ListN.{length, getD, set}
 use Rattle.slices.specs.Parts.{part}
 use Rattle.packstream.specs.Walk.{peekAt, skipAt}
+use Rattle.packstream.specs.declared.walk.Skipped.{Skipped}
 use Rattle.packstream.specs.declared.walk.Skipped.the-variants as S
 use Rattle.messages.specs.Names.{names, indexOf}
 use Rattle.messages.specs.Walk.{stringFound, wrongFrom, nothing, notedFrom}
@@ -53,3 +54,13 @@ module _ (s : List ℕ) (count first i at : ℕ) (found : List ℕ) (so-far : No
       pub one-noted : (q : ℕ) → S.To q ≡ skipAt s (key .start + key .size) → Noting s count first (i + 1) q (set found number (key .start + key .size))
       unfolding notedFrom
       one-noted q g = let z : count - i ≡ suc (count - (i + 1)) = omega arith in so-far ∙ rw (z, ← e, ← g, f)
+
+-- where the last value ends does not matter
+pub last-noted : (s : List ℕ) (count first i at : ℕ) (found : List ℕ) → Noting s count first i at found → i + 1 ≡ count
+    → (key : Span) → T.At key ≡ stringFound (peekAt s at) → (number : ℕ) → number ≡ indexOf (part s (key .start) (key .size)) names
+    → set found number (key .start + key .size) ≡ notedFrom s count first nothing
+last-noted s count first i at found so-far l key e number f = by (skipAt s (key .start + key .size)) refl
+  where
+    by : (k : Skipped) → skipAt s (key .start + key .size) ≡ k → set found number (key .start + key .size) ≡ notedFrom s count first nothing
+    by S.Nothing g = no-value s count first i at found so-far (omega arith) key e number f (sym g)
+    by (S.To q) g = all-noted s count first (i + 1) q _ (one-noted s count first i at found so-far (omega arith) key e number f q (sym g)) (omega arith)

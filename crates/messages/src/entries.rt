@@ -50,11 +50,14 @@ pub fn find(message: &[u8], first: usize, count: usize) -> [usize; 13]
         let place = start + size;
         let number = names::number_of(message, start, size);
         found[number] = place;
+        i += 1;
+        if i == count {
+            return found;
+        }
         let Skipped::To(end) = walk::skip(message, place) else {
             return found;
         };
         at = end;
-        i += 1;
     }
     found
 }

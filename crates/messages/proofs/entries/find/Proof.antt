@@ -11,7 +11,7 @@ use Rattle.messages.specs.Walk.{stringFound}
 use Rattle.messages.specs.declared.request.Text.the-variants as T
 use Rattle.messages.proofs.Naming.{number-bound}
 use Rattle.messages.proofs.Peeking.{string-within}
-use Rattle.messages.proofs.Walking.{Noting, all-noted, no-key, no-value, one-noted}
+use Rattle.messages.proofs.Walking.{Noting, all-noted, no-key, no-value, one-noted, last-noted}
 use Rattle.messages.proofs.entries.find.Statement.{statement}
 use Rattle.messages.proofs.entries.find.Tie as tie
 
@@ -56,6 +56,13 @@ mul-found c = let h = number-bound (c .number-of .result) _ (c .number-of .ensur
 array-write-found : tie.Need-array-write-found Inv-loop μ-loop
 array-write-found c = number-bound _ _ (c .number-of .ensures)
 
+add-i : tie.Need-add-i Inv-loop μ-loop
+add-i c = omega arith
+
+returns-2 : tie.Need-returns-2 Inv-loop μ-loop
+returns-2 c = let a = c .before .before .before .before .before .before .before .before .before .args in let l = c .before .before .before .before .before .before .before .loop in
+    last-noted (a .message .now) (a .count) (a .first) (l .i) (l .at) (l .found) (l .inv .1) (c .if1 .taken) _ (key-found (c .before .before)) _ (c .before .number-of .ensures)
+
 skip-requires : tie.Need-skip-requires Inv-loop μ-loop
 skip-requires c κs = tt
 
@@ -65,26 +72,23 @@ enum-known-end c = search needs
 enum-told-2 : tie.Need-enum-told-2 Inv-loop μ-loop
 enum-told-2 c = search needs
 
-returns-2 : tie.Need-returns-2 Inv-loop μ-loop
-returns-2 c = let a = c .before .before .before .before .before .before .before .before .before .before .before .args in let l = c .before .before .before .before .before .before .before .before .before .loop in let d = c .before .before .before .before in
-    no-value (a .message .now) (a .count) (a .first) (l .i) (l .at) (l .found) (l .inv .1) (c .before .before .before .before .before .before .before .before .loop-test .taken) _ (key-found d) _ (c .before .before .before .number-of .ensures)
+returns-3 : tie.Need-returns-3 Inv-loop μ-loop
+returns-3 c = let a = c .before .before .before .before .before .before .before .before .before .before .before .before .args in let l = c .before .before .before .before .before .before .before .before .before .before .loop in
+    no-value (a .message .now) (a .count) (a .first) (l .i) (l .at) (l .found) (l .inv .1) (c .before .before .before .before .before .before .before .before .before .loop-test .taken) _ (key-found (c .before .before .before .before .before)) _ (c .before .before .before .before .number-of .ensures)
     (sym (c .enum-told2 .given .1) ∙ c .before .before .skip .ensures)
-
-add-i : tie.Need-add-i Inv-loop μ-loop
-add-i c = omega arith
 
 loop-less : tie.Need-loop-less Inv-loop μ-loop
 loop-less c = omega arith
 
 loop-again : tie.Need-loop-again Inv-loop μ-loop
-loop-again c = let a = c .before .before .before .before .before .before .before .before .before .before .before .before .args in let l = c .before .before .before .before .before .before .before .before .before .before .loop in let d = c .before .before .before .before .before in (
+loop-again c = let a = c .before .before .before .before .before .before .before .before .before .before .before .before .before .args in let l = c .before .before .before .before .before .before .before .before .before .before .before .loop in (
   omega arith,
-  one-noted (a .message .now) (a .count) (a .first) (l .i) (l .at) (l .found) (l .inv .1) (c .before .before .before .before .before .before .before .before .before .loop-test .taken) _ (key-found d) _ (c .before .before .before .before .number-of .ensures) _
+  one-noted (a .message .now) (a .count) (a .first) (l .i) (l .at) (l .found) (l .inv .1) (c .before .before .before .before .before .before .before .before .before .before .loop-test .taken) _ (key-found (c .before .before .before .before .before .before)) _ (c .before .before .before .before .before .number-of .ensures) _
       (sym (c .before .end .given .1) ∙ c .before .before .before .skip .ensures),
 )
 
-returns-3 : tie.Need-returns-3 Inv-loop μ-loop
-returns-3 c = let a = c .before .before .before .args in let l = c .before .loop in all-noted (a .message .now) (a .count) (a .first) (l .i) (l .at) (l .found) (l .inv .1) (omega arith)
+returns-4 : tie.Need-returns-4 Inv-loop μ-loop
+returns-4 c = let a = c .before .before .before .args in let l = c .before .loop in all-noted (a .message .now) (a .count) (a .first) (l .i) (l .at) (l .found) (l .inv .1) (omega arith)
 
 pub find-spec : {M : Type 1} → statement M
 find-spec =
@@ -101,11 +105,12 @@ find-spec =
     number-of-requires
     mul-found
     array-write-found
+    add-i
+    returns-2
     skip-requires
     enum-known-end
     enum-told-2
-    returns-2
-    add-i
+    returns-3
     loop-less
     loop-again
-    returns-3)
+    returns-4)
