@@ -100,7 +100,7 @@ module _ (s : List ℕ) (at : ℕ) (m : Marker) where
     unfolding containerExtent
     container-there n e = ap (λ (u : Unsigned). onSize at u (λ n. E.Container k (at + m .skip + m .width) n)) e
 
--- what a marker alone tells the size of: a small String, a small Integer, a small container
+-- a leaf whose marker alone tells its size: a small String, and a small Integer
 module _ (s : List ℕ) (at : ℕ) where
   pub string-short : (n : ℕ) → length s < at + 1 + n → E.Refused ValueTruncated at ≡ leafExtent s at L.String (small (K.Leaf L.String) n)
   string-short n h = leaf-short s at (small (K.Leaf L.String) n) L.String n refl (omega arith)
@@ -114,11 +114,6 @@ module _ (s : List ℕ) (at : ℕ) where
   integer-there h =
       let p : at + 0 + 0 ≡ at = omega arith in
       rw p at (leaf-there s at (itself L.Integer 0) L.Integer 1 refl (omega arith))
-
-  pub small-there : (k : Container) (n : ℕ) → E.Container k (at + 1) n ≡ containerExtent s at k (small (K.Container k) n)
-  small-there k n =
-      let p : at + 1 + 0 ≡ at + 1 = omega arith in
-      rw p at (container-there s at (small (K.Container k) n) k n refl)
 
 -- ---- by the marker's kind
 module _ (s : List ℕ) (at : ℕ) where

@@ -93,23 +93,13 @@ unfolding tabulate markerOf lookup
 by-split m high h e =
     rw (and-mask m 4, ← e) (agree (λ k. splitBy (k / 16) (k % 16) k) markerOf 256 refl m h)
 
--- the markers that tell their size themselves: small Strings, Integers and containers
+-- a small String's and a small Integer's marker
 pub small-string : (m : ℕ) → m / 16 ≡ 8 → small (K.Leaf L.String) (bitAnd m 15) ≡ markerOf m
 small-string m e = by-split m 8 (omega (arith, e)) e
 
 pub small-integer : (m : ℕ) → m < 0x80 → itself L.Integer 0 ≡ markerOf m
 unfolding tabulate markerOf lookup
 small-integer m h = agree (λ k. itself L.Integer 0) markerOf 0x80 refl m h
-
-container-table : (n : ℕ) → n < 48 → small (markerOf ((0x90 + n) / 16 * 16) .kind) ((0x90 + n) % 16) ≡ markerOf (0x90 + n)
-unfolding tabulate markerOf lookup
-container-table n h = agree (λ k. small (markerOf ((0x90 + k) / 16 * 16) .kind) ((0x90 + k) % 16)) (λ k. markerOf (0x90 + k)) 48 refl n h
-
-pub small-container : (m : ℕ) → 0x90 ≤ m → m < 0xC0 → (k : Container) → K.Container k ≡ markerOf (m / 16 * 16) .kind
-    → small (K.Container k) (bitAnd m 15) ≡ markerOf m
-small-container m l h k e =
-    let n : 0x90 + (m - 0x90) ≡ m = omega arith in
-    rw (and-mask m 4, e) (rw n at (container-table (m - 0x90) (omega arith)))
 
 -- ---- what holds of every marker
 -- the marker alone tells the size

@@ -1,9 +1,9 @@
 // Extents: where a value's content lies, as far as its marker and its size tell.
 ghost use mathlib.Core.Path.{_≡_};
 ghost use mathlib.Core.Bool.{true, cond};
-ghost use Prim.Native.Nat.{_*_, _≤_, _<_};
-ghost use lib.ListN.{length, getD};
-ghost use Rattle.packstream.specs.Marker.{small, markerOf, isString};
+ghost use Prim.Native.Nat.{_≤_, _<_};
+ghost use lib.ListN.{length};
+ghost use Rattle.packstream.specs.Marker.{small, isString};
 ghost use Rattle.packstream.specs.Decode.{sizeAt, leafExtent, containerExtent, extentAt, keyExtentAt};
 use crate::marker::Container;
 use crate::marker::Kind;
@@ -146,38 +146,8 @@ fn small_string(message: &[u8], at: usize, size: usize) -> Extent
     }
 }
 
-// The kind of container that a small marker with these high four bits is of.
-fn container_of(high: u8) -> Container
-    requires { ⌜ (9 ≤ high) × (high ≤ 11) ⌝ }
-    ensures { λ r. ⌜ Kind.Container r ≡ markerOf (high * 16) .kind ⌝ }
-{
-    match high {
-        9 => Container::List,
-        10 => Container::Dictionary,
-        _ => Container::Structure,
-    }
-}
-
-// A container whose marker tells how many things it holds.
-fn small_container(message: &[u8], at: usize, depth: usize) -> Extent
-    requires { ⌜ (at < length (now message)) × (0x90 ≤ getD (now message) at 0) × (getD (now message) at 0 < 0xC0) ⌝ }
-    ensures { λ r. ⌜ r ≡ extentAt (now (message .entry)) depth at ⌝ }
-{
-    let marker = message[at];
-    let kind = container_of(marker >> 4);
-    let count = (marker & 15) as usize;
-    if depth == 0 {
-        return refused(Refusal::TooDeep, at);
-    }
-    Extent::Container {
-        kind: kind,
-        start: at + 1,
-        count: count,
-    }
-}
-
-// What lies at `at`, with room for `depth` open containers. Text is not looked at, nor a Structure's tag. The markers up to BF are of small
-// Integers, Strings and containers, which most values are: they tell their size themselves, and are looked at first.
+// What lies at `at`, with room for `depth` open containers. Text is not looked at, nor a Structure's tag. Most values are small Strings
+// and Integers, which are told by their markers alone: they are looked for first.
 pub fn extent_at(message: &[u8], at: usize, depth: usize) -> Extent
     ensures { λ r. ⌜ r ≡ extentAt (now (message .entry)) depth at ⌝ }
 {
@@ -185,18 +155,15 @@ pub fn extent_at(message: &[u8], at: usize, depth: usize) -> Extent
         return refused(Refusal::ValueTruncated, message.len());
     }
     let marker = message[at];
+    if marker >> 4 == 8 {
+        return small_string(message, at, (marker & 15) as usize);
+    }
     if marker < 0x80 {
         return Extent::Leaf {
             kind: Leaf::Integer,
             start: at,
             size: 1,
         };
-    }
-    if marker < 0x90 {
-        return small_string(message, at, (marker & 15) as usize);
-    }
-    if marker < 0xC0 {
-        return small_container(message, at, depth);
     }
     by_marker(message, at, depth, false)
 }

@@ -8,7 +8,7 @@ use lib.ListN.{getD}
 use Rattle.packstream.specs.Marker.{itself, small}
 use Rattle.packstream.specs.declared.marker.Leaf.the-variants as L
 use Rattle.packstream.specs.declared.marker.Kind.the-variants as K
-use Rattle.packstream.proofs.Markers as Markers
+use Rattle.packstream.proofs.Markers.{small-string, small-integer}
 use Rattle.packstream.proofs.Extents.{extent-missing, integer-there, by-kind}
 use Rattle.packstream.proofs.extent.extent_at.Statement.{statement}
 use Rattle.packstream.proofs.extent.extent_at.Tie as tie
@@ -26,37 +26,31 @@ returns c = let a = c .before .before .before .args in c .refused .ensures ∙ e
 shared-slice-read-marker : tie.Need-shared-slice-read-marker
 shared-slice-read-marker c = search needs
 
-returns-2 : tie.Need-returns-2
-returns-2 c =
-    let s = c .before .before .before .before in
-    let a = s .args in
-    integer-there (a .message .now) (a .at) (c .before .before .if1 .left)
-    ∙ by-kind (a .message .now) (a .at) (c .before .before .if1 .left) (itself L.Integer 0) (Markers.small-integer (byte s) (c .if2 .taken)) (a .depth) (K.Leaf L.Integer) refl
-
 cast-small-string : tie.Need-cast-small-string
-cast-small-string c = omega (arith, mask-lt (byte (c .before .before .before .before .before)) 4)
+cast-small-string c = omega (arith, mask-lt (byte (c .before .before .before .before)) 4)
 
 small-string-requires : tie.Need-small-string-requires
 small-string-requires c κs = search needs
 
-returns-3 : tie.Need-returns-3
-returns-3 c =
-    let s = c .before .before .before .before .before .before in
+returns-2 : tie.Need-returns-2
+returns-2 c =
+    let s = c .before .before .before .before .before in
     let a = s .args in
     c .small-string .ensures
-    ∙ by-kind (a .message .now) (a .at) (c .before .before .before .before .if1 .left) (small (K.Leaf L.String) (bitAnd (byte s) 15)) (Markers.small-string (byte s) (omega (arith, c .before .if3 .taken, c .before .before .if2 .left))) (a .depth) (K.Leaf L.String) refl
+    ∙ by-kind (a .message .now) (a .at) (c .before .before .before .if1 .left) (small (K.Leaf L.String) (bitAnd (byte s) 15)) (small-string (byte s) (c .before .if2 .taken)) (a .depth) (K.Leaf L.String) refl
 
-small-container-requires : tie.Need-small-container-requires
-small-container-requires c κs = search needs
-
-returns-4 : tie.Need-returns-4
-returns-4 c = search needs
+returns-3 : tie.Need-returns-3
+returns-3 c =
+    let s = c .before .before .before .before .before in
+    let a = s .args in
+    integer-there (a .message .now) (a .at) (c .before .before .before .if1 .left)
+    ∙ by-kind (a .message .now) (a .at) (c .before .before .before .if1 .left) (itself L.Integer 0) (small-integer (byte s) (c .if3 .taken)) (a .depth) (K.Leaf L.Integer) refl
 
 by-marker-requires : tie.Need-by-marker-requires
 by-marker-requires c κs = search needs
 
-returns-5 : tie.Need-returns-5
-returns-5 c = search needs
+returns-4 : tie.Need-returns-4
+returns-4 c = search needs
 
 pub extent-at-spec : {M : Type 1} → statement M
 extent-at-spec =
@@ -65,11 +59,9 @@ extent-at-spec =
     refused-requires
     returns
     shared-slice-read-marker
-    returns-2
     cast-small-string
     small-string-requires
+    returns-2
     returns-3
-    small-container-requires
-    returns-4
     by-marker-requires
-    returns-5)
+    returns-4)
