@@ -35,6 +35,11 @@ fn run(query: &str, parameters: usize, width: usize) -> Message {
     })
 }
 
+/// PULL of a thousand records.
+pub fn pull() -> Vec<u8> {
+    Message(vec![0xB1, 0x3F]).dictionary(1).string("n").integer(1_000).0
+}
+
 /// A RUN as drivers send it, of about 200 bytes.
 pub fn typical_run() -> Vec<u8> {
     let query = "MATCH (p:Part {identifier: $parameter_0})-[:STRAP]->(s) RETURN s.name, s.file";

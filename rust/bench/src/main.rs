@@ -74,7 +74,8 @@ fn requests() {
             },
         )
     };
-    let (run, large) = (inputs::typical_run(), inputs::large_run());
+    let (pull, run, large) = (inputs::pull(), inputs::typical_run(), inputs::large_run());
+    row(&format!("request: PULL of {} bytes", pull.len()), "reference", request(&pull));
     row(&format!("request: RUN of {} bytes", run.len()), "reference", request(&run));
     row(&format!("request: RUN of {} bytes, 200 parameters", large.len()), "reference", request(&large));
 }
