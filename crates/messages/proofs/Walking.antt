@@ -1,9 +1,9 @@
 -- Laws of the walks: over the items of a List, and over the entries of a Dictionary. Assumes nothing.
-use mathlib.Core.Path.{_≡_, refl, sym, ap, _∙_}
-use mathlib.Core.List.{List, [], _∷_}
-use Prim.Native.Nat.{ℕ, zero, suc, _+_, _-_, _≤_, _<_}
+use mathlib.Core.Path.{_≡_, refl, sym, _∙_}
+use mathlib.Core.List.{List}
+use Prim.Native.Nat.{ℕ, suc, _+_, _-_, _≤_, _<_}
 use native.Mathlib.Omega.{arith}
-use lib.ListN.{length, getD, set}
+use lib.ListN.{set}
 use Rattle.slices.specs.Parts.{part}
 use Rattle.packstream.specs.Walk.{peekAt, skipAt}
 use Rattle.packstream.specs.declared.walk.Skipped.{Skipped}

@@ -1,10 +1,10 @@
 -- `messages::names::is_name` meets its contract. The loop's invariant: what is left of the key and of the name decides. Assumes nothing.
-use mathlib.Core.Path.{_≡_, sym, ap, _∙_}
-use Prim.Native.Nat.{_≤_, _-_, _+_}
+use mathlib.Core.Path.{sym, ap, _∙_}
+use Prim.Native.Nat.{_≤_, _-_}
 use native.Mathlib.Omega.{arith}
 use Rattle.slices.specs.Parts.{part}
 use Rattle.packstream.specs.Decode.{same}
-use Rattle.messages.proofs.Naming.{spaced, written, starts, startOf, written-length, its-room, name-is, Comparing, comparing-none, all-equal, one-equal, one-differs}
+use Rattle.messages.proofs.Naming.{spaced, written, startOf, written-length, its-room, name-is, Comparing, comparing-none, all-equal, one-equal, one-differs}
 use Rattle.messages.proofs.names.is_name.Statement.{statement}
 use Rattle.messages.proofs.names.is_name.Tie as tie
 

@@ -1,5 +1,5 @@
 -- `messages::names::number_of` meets its contract. The loop's invariant: the k-th name is the first that the key may be. Assumes nothing.
-use mathlib.Core.Path.{_≡_, sym, _∙_}
+use mathlib.Core.Path.{sym, _∙_}
 use Prim.Native.Nat.{_-_}
 use native.Mathlib.Omega.{arith}
 use Rattle.slices.specs.Parts.{part}

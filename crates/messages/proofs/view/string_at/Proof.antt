@@ -1,5 +1,5 @@
 -- `messages::view::string_at` meets its contract: by the extent that is found. Assumes nothing.
-use mathlib.Core.Path.{_≡_, sym, _∙_}
+use mathlib.Core.Path.{sym, _∙_}
 use mathlib.Core.Bool.{true, false}
 use borrow.Author.Needs.{needs}
 use Rattle.messages.proofs.Peeking.{text-at, leaf-text}

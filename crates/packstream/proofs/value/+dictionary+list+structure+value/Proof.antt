@@ -1,14 +1,13 @@
 -- The proof of the cycle of calls {dictionary, list, structure, value}. Each meets its contract; the measure is twice the room for open containers
 -- and the bytes that are left, and one more where a container's items are read. Assumes nothing.
 use mathlib.Core.Path.{_≡_, refl, sym, ap, _∙_, subst}
-use mathlib.Core.List.{[]}
 use Prim.Native.Nat.{ℕ, _+_, _-_, _*_, _≤_, _<_}
 use native.Mathlib.Omega.{arith}
 use borrow.Author.Needs.{needs}
 use borrow.Fn.Kinds.{In}
 use borrow.Fn.PlainCycle.{Measures, is, falls, and}
 use lib.ListN.{length, take, length-set}
-use Rattle.packstream.specs.Decode.{items, entries, extentAt, valueAt}
+use Rattle.packstream.specs.Decode.{items, extentAt, valueAt}
 use Rattle.packstream.specs.Keys.{keysOf, KeysInside}
 use Rattle.packstream.specs.Reading.{stepOf}
 use Rattle.packstream.specs.declared.marker.Container.the-variants as C
