@@ -1,7 +1,7 @@
 -- A keep-alive leads to no call. Assumes nothing.
 use mathlib.Core.Bool.{Bool}
 use mathlib.Core.List.{List}
-use mathlib.Core.Path.{_≡_, refl, ap}
+use mathlib.Core.Path.{ap}
 use Prim.Native.Nat.{ℕ}
 use Rattle.refusal.specs.Answer.{Answer}
 use Rattle.framing.specs.Feed.{Reading}

@@ -2,18 +2,18 @@
 -- Assumes nothing.
 use mathlib.Core.Path.{_≡_, refl, sym, ap, _∙_, subst}
 use mathlib.Core.Logic.{⊎-elim}
-use mathlib.Core.List.{List, [], _∷_, _++_}
+use mathlib.Core.List.{List, [], _++_}
 use mathlib.Core.Bool.{Bool, true, false}
-use Prim.Native.Nat.{ℕ, _+_, _-_, _<_, _≤_}
+use Prim.Native.Nat.{ℕ, _+_, _-_, _≤_}
 use native.Mathlib.Nat.{eq-zero-or-pos}
 use native.Mathlib.Omega.{arith}
-use lib.ListN.{length, drop}
+use lib.ListN.{length}
 use lib.Seq.{sets}
 use Rattle.slices.specs.Parts.{part, front, copied}
 use Rattle.slices.proofs.Tests.{lt-or-ge}
 use Rattle.slices.proofs.Parts.{length-part, sets-front, fits-yes}
 use Rattle.numbers.specs.BigEndian.{bigEndian}
-use Rattle.refusal.specs.Answer.{Answer, result, refused, left}
+use Rattle.refusal.specs.Answer.{Answer, refused, left}
 use Rattle.framing.specs.Feed.{Reading, most, ended}
 use Rattle.framing.specs.Reading.{frameOf, leaves, IsMessage}
 use Rattle.framing.proofs.Scanning.{Came, came-none, at-few, at-message, at-none, at-long, at-room, at-cut, at-next}

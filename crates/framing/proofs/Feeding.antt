@@ -1,17 +1,16 @@
 -- Laws of the feed: two feeds are one, a chunk's bytes as one part, a header, and too few bytes. Assumes nothing.
-use mathlib.Core.Path.{_≡_, refl, ap, _∙_}
+use mathlib.Core.Path.{_≡_, refl, _∙_}
 use mathlib.Core.List.{List, [], _∷_, _++_, append-assoc, append-nil}
 use mathlib.Core.Bool.{Bool}
 use Prim.Native.Nat.{ℕ, zero, suc, _+_, _<_, _≤_}
 use native.Mathlib.Nat.{add-zero}
 use native.Mathlib.Omega.{arith}
-use native.Mathlib.Numerals.{add-one}
 use lib.ListN.{length, getD, take, drop}
 use lib.Seq.{drop-cons}
 use Rattle.slices.specs.Parts.{part}
 use Rattle.numbers.specs.BigEndian.{bigEndian}
 use Rattle.refusal.specs.Answer.{refused}
-use Rattle.framing.specs.Feed.{Waiting, chunk, header, Progress, done, waits, opened, step, andThen, feed}
+use Rattle.framing.specs.Feed.{Waiting, chunk, Progress, done, waits, opened, step, andThen, feed}
 use Rattle.framing.specs.Reading.{closed}
 
 then-then : (p : Progress) (f g : Waiting → Progress) → andThen p (λ w. andThen (f w) g) ≡ andThen (andThen p f) g

@@ -6,8 +6,8 @@ use Prim.Native.Nat.{ℕ, zero, suc, _+_}
 use lib.Dec.{ltb, eqb}
 use lib.ListN.{length}
 use Rattle.numbers.specs.BigEndian.{bigEndian}
-use Rattle.refusal.specs.Answer.{Answer, result, refused, Placed}
-use Rattle.framing.specs.Feed.{Reading, Waiting, chunk, header, Progress, done, waits, most, start, ended, opened, step, andThen, feed}
+use Rattle.refusal.specs.Answer.{result, refused, Placed}
+use Rattle.framing.specs.Feed.{Waiting, chunk, header, Progress, done, waits, most, start, ended, andThen, feed}
 use Rattle.framing.specs.Reading.{closed, frameOf}
 use Rattle.framing.specs.Chunking.{chunked, writing}
 

@@ -1,5 +1,5 @@
 -- What a smaller buffer reads, a larger reads alike: only 21 depends on the room. Assumes nothing.
-use mathlib.Core.Path.{_≡_, refl, sym, ap, _∙_}
+use mathlib.Core.Path.{_≡_, refl, sym, ap}
 use mathlib.Core.Logic.{_⊎_, inl, inr}
 use mathlib.Core.Bool.{Bool, true, false, cond}
 use mathlib.Core.List.{List, [], _∷_}
@@ -9,8 +9,8 @@ use lib.Dec.{eqb, ltb}
 use lib.ListN.{length}
 use borrow.Author.Tests.{ltb-false, le-ltb}
 use Rattle.numbers.specs.BigEndian.{bigEndian}
-use Rattle.refusal.specs.Answer.{Answer, result, refused}
-use Rattle.framing.specs.Feed.{Reading, Waiting, chunk, header, Progress, done, waits, start, most, ended, opened, step, andThen, feed}
+use Rattle.refusal.specs.Answer.{refused}
+use Rattle.framing.specs.Feed.{Waiting, chunk, header, Progress, done, waits, start, most, ended, opened, step, andThen, feed}
 use Rattle.framing.specs.Reading.{closed, frameOf}
 
 abbrev Alike : Progress → Progress → Type 0

@@ -11,8 +11,8 @@ use lib.Seq.{length-take-le, take-at, drop-at}
 use borrow.Author.Tests.{ne-eqb, le-ltb, leb-true}
 use Rattle.numbers.specs.BigEndian.{bigEndian, bytesOf}
 use Rattle.numbers.proofs.BigEndian.{read-back}
-use Rattle.refusal.specs.Answer.{Answer, result}
-use Rattle.framing.specs.Feed.{Reading, message, Waiting, chunk, most, andThen, feed}
+use Rattle.refusal.specs.Answer.{result}
+use Rattle.framing.specs.Feed.{message, chunk, most, feed}
 use Rattle.framing.specs.Reading.{closed, frameOf, used}
 use Rattle.framing.specs.Chunking.{chunkOf, end, remainder, wholes, chunked}
 use Rattle.framing.specs.RoundTrip.{Sent, chunks, empty, sendable, wire, arrives, allSendable, wireAll, arriveAll, framesOf, RoundTrip}

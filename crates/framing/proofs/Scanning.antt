@@ -10,8 +10,8 @@ use borrow.Author.Tests.{eq-eqb, ne-eqb, lt-ltb, le-ltb}
 use Rattle.slices.specs.Parts.{part}
 use Rattle.slices.proofs.Parts.{length-part}
 use Rattle.numbers.specs.BigEndian.{bigEndian}
-use Rattle.refusal.specs.Answer.{Answer, result, refused}
-use Rattle.framing.specs.Feed.{Reading, message, Progress, Waiting, chunk, start, most, ended, opened, andThen, feed}
+use Rattle.refusal.specs.Answer.{result, refused}
+use Rattle.framing.specs.Feed.{message, chunk, start, most, ended, opened, andThen, feed}
 use Rattle.framing.specs.Reading.{closed, frameOf}
 use Rattle.framing.proofs.Feeding.{feed-chunk, feed-cut, feed-few, feed-header-at}
 

@@ -1,12 +1,12 @@
 -- Laws of the checks: a view of any other kind is wrong, and numbers are in their ranges by their signs. Assumes nothing.
-use mathlib.Core.Path.{_≡_, refl, sym, ap, _∙_, subst}
+use mathlib.Core.Path.{_≡_, refl, sym, ap, _∙_}
 use mathlib.Core.Bool.{Bool, true, false, true≢false, false≢true}
 use mathlib.Core.List.{List, [], _∷_}
 use Prim.Native.Nat.{ℕ, zero, suc}
 use native.Mathlib.Omega.{arith}
 use lib.Dec.{leb, eqb, leb·zero}
 use lib.IntN.{ℤ, pos, negsuc}
-use lib.Signed.{leZ, ltZ}
+use lib.Signed.{leZ}
 use borrow.Author.Tests.{lt-leb, ne-eqb}
 use denote.Enum.Declared.{tagOf}
 use types.Run.{OneOf, miss}

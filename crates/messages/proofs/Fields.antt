@@ -1,8 +1,8 @@
 -- The fields of a request: how many there are, and what is found of each is what it is. Assumes nothing.
-use mathlib.Core.Path.{_≡_, refl, sym, ap, _∙_, subst}
+use mathlib.Core.Path.{_≡_, refl, sym, ap, _∙_}
 use mathlib.Core.Bool.{cond}
-use mathlib.Core.List.{List, [], _∷_}
-use Prim.Native.Nat.{ℕ, zero, suc, _+_, _-_, _<_, _≤_}
+use mathlib.Core.List.{List, []}
+use Prim.Native.Nat.{ℕ, suc, _+_, _-_, _<_, _≤_}
 use native.Mathlib.Omega.{arith}
 use lib.Dec.{eqb}
 use lib.ListN.{length}
@@ -22,7 +22,7 @@ use Rattle.packstream.proofs.Steps.{ValueTells, value-tells, entries-count}
 use Rattle.messages.specs.Names.{nameOf}
 use Rattle.messages.specs.View.{span, seen, under}
 use Rattle.messages.specs.Checks.{andThen, wrong, stringIn, requiredText}
-use Rattle.messages.specs.Requests.{Lookup, hello, transaction, batch, asks, entriesOf, extra, run, none, one, two, three}
+use Rattle.messages.specs.Requests.{Lookup, hello, transaction, batch, asks, entriesOf, extra, run, none, one, three}
 use Rattle.messages.specs.Walk.{stringFound, onText, entriesHead, entriesFound, notedFrom, nothing, entryIn, Fields}
 use Rattle.messages.specs.declared.request.Span.{Span}
 use Rattle.messages.specs.declared.request.Text.{Text}

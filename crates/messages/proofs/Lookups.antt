@@ -1,31 +1,27 @@
 -- What the walk of a Dictionary notes is what its entries say: each name comes at most once. Assumes nothing.
 use mathlib.Core.Path.{_≡_, refl, sym, ap, _∙_, subst}
-use mathlib.Core.Bool.{Bool, true, false, cond, _&&_, _||_, and-eq-true-iff, true≢false, false≢true}
+use mathlib.Core.Bool.{Bool, true, false, cond, and-eq-true-iff, true≢false, false≢true}
 use mathlib.Core.List.{List, [], _∷_}
-use Prim.Native.Nat.{ℕ, zero, suc, _+_, _≤_, _<_}
+use Prim.Native.Nat.{ℕ, zero, suc, _≤_, _<_}
 use native.Mathlib.Omega.{arith}
 use lib.Dec.{eqb}
-use lib.ListN.{length, getD, set, length-set, getD-replicate}
+use lib.ListN.{length, getD, length-set, getD-replicate}
 use lib.Seq.{getD-set-same, getD-set-other}
 use borrow.Author.Tests.{eqb-true, ne-eqb}
 use Rattle.slices.specs.Parts.{part}
 use Rattle.packstream.specs.Value.{Value, Entries, no-entries, entry, countEntries}
 use Rattle.packstream.specs.Decode.{Parse, parsed, same, repeats, KeyText, keyAt, entries, valueAt, mostOpen}
-use Rattle.packstream.specs.Walk.{peekAt, skipAt}
-use Rattle.packstream.specs.Placement.{Reads, EntriesLie}
-use Rattle.packstream.specs.declared.walk.Skipped.{Skipped}
+use Rattle.packstream.specs.Placement.{EntriesLie}
 use Rattle.packstream.proofs.KeySearch as Keys
 use Rattle.packstream.proofs.KeySearch.{KeyTells, key-tells}
 use Rattle.packstream.proofs.Steps.{FirstEntry, first-entry, entries-count}
 use Rattle.packstream.proofs.Placement.{placement, entries-lie}
 use Rattle.messages.specs.Names.{names, nameOf, indexOf}
 use Rattle.messages.specs.View.{span, seen, under}
-use Rattle.messages.specs.Walk.{stringFound, onText, onSkip, note, notedFrom, nothing, viewAt, entryAt, entryIn}
-use Rattle.messages.specs.declared.request.Span.{Span}
+use Rattle.messages.specs.Walk.{stringFound, note, notedFrom, nothing, entryAt, entryIn}
 use Rattle.messages.specs.declared.request.Text.{Text}
 use Rattle.messages.specs.declared.request.Text.the-variants as T
 use Rattle.messages.specs.declared.view.View.{View}
-use Rattle.messages.specs.declared.view.Entry.{Entry}
 use Rattle.messages.proofs.Naming.{index-of-name, name-of-index}
 use Rattle.messages.proofs.Peeking.{string-within}
 use Rattle.messages.proofs.Trees.{view-there}

@@ -1,5 +1,5 @@
 -- The rule of places of the request reader: 14, 15 and 16 name a place, and what the value reader refuses keeps the rule. Assumes nothing.
-use mathlib.Core.Bool.{Bool, true, false, cond}
+use mathlib.Core.Bool.{Bool, cond}
 use mathlib.Core.List.{List}
 use Prim.Native.Nat.{ℕ}
 use lib.Dec.{eqb, leb}
@@ -11,8 +11,8 @@ use Rattle.packstream.specs.Decode.{decode}
 use Rattle.packstream.proofs.Places.{message-placed}
 use Rattle.messages.specs.Names as Name
 use Rattle.messages.specs.View.{seen, absent, under}
-use Rattle.messages.specs.Checks.{andThen, wrong, stringAt, stringIn, dictionaryAt, dictionaryIn, unlessItem, listOfStringsAt, listOfStringsIn, unlessNone, modeAt, modeIn, integerAt, integerIn, inRange, requiredText, requiredNumber, orMinusOne}
-use Rattle.messages.specs.Requests.{Lookup, hello, transaction, batch, asks, entriesOf, extra, run, none, one, two, three, tagged, requestIn, requestOf}
+use Rattle.messages.specs.Checks.{andThen, wrong, stringAt, stringIn, dictionaryAt, dictionaryIn, unlessItem, listOfStringsAt, listOfStringsIn, unlessNone, modeAt, modeIn, integerAt, integerIn, inRange, requiredText, requiredNumber}
+use Rattle.messages.specs.Requests.{Lookup, hello, transaction, batch, asks, entriesOf, extra, run, none, one, three, tagged, requestIn, requestOf}
 use Rattle.messages.specs.declared.request.Text.{Text}
 use Rattle.messages.specs.declared.request.Text.the-variants as T
 use Rattle.messages.specs.declared.request.Place.{Place}

@@ -1,13 +1,12 @@
 -- From what is told of a message to the request that it is. Assumes nothing.
-use mathlib.Core.Path.{_≡_, refl, sym, ap, _∙_, subst}
+use mathlib.Core.Path.{_≡_, refl, ap, _∙_, subst}
 use mathlib.Core.List.{List, [], _∷_}
-use Prim.Native.Nat.{ℕ, _≤_}
+use Prim.Native.Nat.{ℕ}
 use native.Mathlib.Omega.{arith}
 use lib.ListN.{length}
-use denote.Enum.Declared.{tagOf}
-use types.Run.{OneOf, miss}
-use Rattle.refusal.specs.Answer.{Answer, result, refused}
-use Rattle.packstream.specs.Value.{Value, null, boolean, integer, float, bytes, string, list, dictionary, structure, Items, count, first}
+use types.Run.{miss}
+use Rattle.refusal.specs.Answer.{result, refused}
+use Rattle.packstream.specs.Value.{Value, null, boolean, integer, float, bytes, string, list, dictionary, structure, count, first}
 use Rattle.packstream.specs.Decode.{decode, mostOpen}
 use Rattle.packstream.specs.Reading.{headOf, Found, tellMessage}
 use Rattle.packstream.specs.Placement.{PartsLie}
@@ -16,7 +15,7 @@ use Rattle.packstream.specs.declared.read.Head.the-variants as H
 use Rattle.packstream.proofs.Answers.{told-value, told-refusal, decode-reads}
 use Rattle.packstream.proofs.Placement.{placement}
 use Rattle.messages.specs.Requests.{tagged, requestIn, requestOf, told}
-use Rattle.messages.specs.Walk.{Fields, Answers}
+use Rattle.messages.specs.Walk.{Answers}
 use Rattle.messages.specs.declared.request.Reading.{Reading}
 use Rattle.messages.proofs.Viewing.{Kinds}
 

@@ -2,21 +2,19 @@
 use mathlib.Core.Path.{_≡_, refl, sym, ap, _∙_}
 use mathlib.Core.Bool.{cond}
 use mathlib.Core.List.{List}
-use Prim.Native.Nat.{ℕ, zero, suc, _+_, _-_, _≤_}
+use Prim.Native.Nat.{ℕ, _+_, _-_, _≤_}
 use native.Mathlib.Omega.{arith}
 use lib.ListN.{length}
-use Rattle.slices.specs.Parts.{part}
-use Rattle.packstream.specs.Value.{Value, null, boolean, integer, float, bytes, string, list, dictionary, structure, Items, no-items, item, count, first, Entries, firstEntry, countEntries}
+use Rattle.packstream.specs.Value.{Value, null, boolean, integer, float, bytes, string, list, dictionary, structure, Items, no-items, item, count, first, Entries}
 use Rattle.packstream.specs.Decode.{mostOpen}
 use Rattle.packstream.specs.Reading.{headOf}
 use Rattle.packstream.specs.Walk.{peekAt}
-use Rattle.packstream.specs.Placement.{Reads, ItemsLie, ContentLies, PartsLie}
+use Rattle.packstream.specs.Placement.{Reads, ItemsLie, PartsLie}
 use Rattle.packstream.specs.declared.walk.Peeked.{Peeked}
 use Rattle.packstream.specs.declared.walk.Peeked.the-variants as Pk
 use Rattle.packstream.proofs.Placement.{placement}
 use Rattle.messages.specs.View.{span, isString, wrongIn, modeNamed, viewOf}
-use Rattle.messages.specs.Walk.{stringHead, stringFound, onText, wrongFrom, viewHead, viewFound, entriesHead, entriesFound}
-use Rattle.messages.specs.declared.request.Span.{Span}
+use Rattle.messages.specs.Walk.{stringHead, stringFound, onText, wrongFrom, viewHead, viewFound}
 use Rattle.messages.specs.declared.request.Text.{Text}
 use Rattle.messages.specs.declared.request.Text.the-variants as T
 use Rattle.messages.specs.declared.request.Place.{Place}

@@ -7,10 +7,9 @@ use native.Mathlib.Nat.{pow-suc, pow-le-pow-right, mod-eq-of-lt, mod-lt, mod-one
 use native.Mathlib.Numerals.{add-one}
 use native.Mathlib.Omega.{arith}
 use lib.Arith.{digits-div, digits-lt, mod-mul}
-use lib.Bits.{bitOr, or-shifted}
 use lib.Dec.{ltb, eqb, lit<}
 use lib.ListN.{length, getD, set, drop, length-append, length-drop, length-take, List·getD-eq-default}
-use lib.Pow.{pow-add, shl-exact}
+use lib.Pow.{pow-add}
 use lib.Seq.{take-suc, getD-drop, getD-take, sets}
 use borrow.Author.Tests.{ltb-true, ltb-false, eqb-true}
 use Rattle.slices.specs.Parts.{part}
@@ -194,7 +193,3 @@ load-next n b i h l = omega (arith, ap (λ (j : ℕ). 256 ^ j) (add-one i) ∙ p
 pub store-next : (d : List ℕ) (i j n : ℕ) → sets (set d i (n / 2 ^ (8 * j) % 256)) (i + 1) (bytesOf j n) ≡ sets d i (bytesOf (suc j) n)
 unfolding bytesOf
 store-next d i j n = rw (add-one i, pow256-bits j)
-
--- a byte put below a number of j bits, in code that shifts and combines words of w bits
-pub cat-bits : (j w a b : ℕ) → a < 2 ^ j → j + 8 ≤ w → b < 256 → bitOr ((a * 2 ^ 8) % 2 ^ w) b ≡ a * 256 + b
-cat-bits j w a b h l m = rw (shl-exact {a = a} j 8 w h l) (or-shifted a 8 b m)

@@ -8,16 +8,12 @@ use lib.Dec.{ltb, leb}
 use lib.IntN.{ℤ, pos, negsuc}
 use lib.Signed.{mag}
 use Rattle.numbers.specs.TwosComplement.{twos, bitsOf, fitsIn}
-use Rattle.numbers.proofs.BigEndian.{pow256-pos, pow256-suc, pow256-mono}
+use Rattle.numbers.proofs.BigEndian.{pow256-pos, pow256-suc}
 
 -- ---- the integers of a width
 pub fits-yes : (k : ℕ) (z : ℤ) → 2 * mag z < 256 ^ k → fitsIn k z ≡ true
 unfolding fitsIn
 fits-yes k z h = lt-ltb (2 * mag z) (256 ^ k) h
-
-pub fits-no : (k : ℕ) (z : ℤ) → 256 ^ k ≤ 2 * mag z → fitsIn k z ≡ false
-unfolding fitsIn
-fits-no k z h = le-ltb (2 * mag z) (256 ^ k) h
 
 pub fits-lt : (k : ℕ) (z : ℤ) → fitsIn k z ≡ true → 2 * mag z < 256 ^ k
 unfolding fitsIn
@@ -26,10 +22,6 @@ fits-lt k z e = ltb-true (2 * mag z) (256 ^ k) e
 pub fits-le : (k : ℕ) (z : ℤ) → fitsIn k z ≡ false → 256 ^ k ≤ 2 * mag z
 unfolding fitsIn
 fits-le k z e = ltb-false (2 * mag z) (256 ^ k) e
-
--- a wider width holds what a narrower one does
-pub fits-wider : (j k : ℕ) (z : ℤ) → j ≤ k → fitsIn j z ≡ true → fitsIn k z ≡ true
-fits-wider j k z h e = fits-yes k z (omega (arith, fits-lt j z e, pow256-mono j k h))
 
 -- the test by half of the largest number of k bytes
 pub fits-half : (k : ℕ) (z : ℤ) → leb (mag z) ((256 ^ k - 1) / 2) ≡ fitsIn k z

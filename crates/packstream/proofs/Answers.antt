@@ -4,7 +4,7 @@ use mathlib.Core.Bool.{Bool, true, false, cond}
 use mathlib.Core.List.{List}
 use Prim.Native.Nat.{ℕ, _≤_, _<_}
 use native.Mathlib.Omega.{arith}
-use borrow.Author.Tests.{lt-ltb, le-ltb, ltb-true, ltb-false, eq-eqb, ne-eqb, eqb-true}
+use borrow.Author.Tests.{lt-ltb, le-ltb, ltb-false, eq-eqb, ne-eqb, eqb-true}
 use lib.Dec.{ltb, eqb}
 use lib.ListN.{length}
 use Rattle.refusal.specs.Answer.{Answer, result, refused}
@@ -13,7 +13,7 @@ use Rattle.refusal.specs.declared.Refusal.{Refusal}
 use Rattle.refusal.specs.declared.Refusal.the-variants.{TooLong, TrailingBytes}
 use Rattle.packstream.specs.Value.{Value}
 use Rattle.packstream.specs.Decode.{Parse, parsed, failed, valueAt, valueIn, whole, messageOf, answerOf, decode, mostBytes, mostOpen}
-use Rattle.packstream.specs.Reading.{headOf, stepOf, Found, foundAt, told, tellMessage, tellValue}
+use Rattle.packstream.specs.Reading.{headOf, stepOf, Found, foundAt, tellMessage, tellValue}
 use Rattle.packstream.specs.Walk.{peekAt}
 use Rattle.packstream.specs.Placement.{Reads}
 use Rattle.packstream.specs.declared.read.Head.{Head}
@@ -124,22 +124,3 @@ module _ (s : List ℕ) where
   pub reads-decode : length s ≤ mostBytes → (v : Value) → Reads s mostOpen 0 v (length s) → decode s ≡ result v
   unfolding messageOf valueIn
   reads-decode h v e = rw (le-ltb mostBytes (length s) h, e, eq-eqb (length s) (length s) refl)
-
--- a value was told that lies at an offset: it is read there
-pub told-reads : (s : List ℕ) (depth at : ℕ) (f : Found) → result f ≡ tellValue (valueIn s depth at)
-    → (v : Value) × Reads s depth at v (f .end) × (f ≡ foundAt (f .end) v)
-told-reads s depth at f e = by-length (ltb mostBytes (length s)) refl
-  where
-    by : (g : Parse Value) → valueAt s depth at ≡ g → result f ≡ tellValue g → (v : Value) × Reads s depth at v (f .end) × (f ≡ foundAt (f .end) v)
-    by (parsed v end) g e =
-        let a : f ≡ foundAt end v = cc e in
-        let b : end ≡ f .end = sym (ap (λ (x : Found). x .end) a) in
-        (v, g ∙ ap (parsed v) b, a ∙ ap (λ (n : ℕ). foundAt n v) b)
-    by (failed why place) g e = let z : _≡_ {A = ℕ} 0 1 = cc e in absurd (clash z)
-
-    by-length : (t : Bool) → ltb mostBytes (length s) ≡ t → (v : Value) × Reads s depth at v (f .end) × (f ≡ foundAt (f .end) v)
-    by-length true l =
-        let g : result f ≡ tellValue (failed TooLong 0) = e ∙ ap tellValue (sym (value-too-long s depth at (ltb-true mostBytes (length s) l))) in
-        let z : _≡_ {A = ℕ} 0 1 = cc g in absurd (clash z)
-    by-length false l =
-        by (valueAt s depth at) refl (e ∙ ap tellValue (sym (value-not-long s depth at (ltb-false mostBytes (length s) l))))

@@ -2,13 +2,13 @@
 -- room for open containers. Assumes nothing.
 use mathlib.Core.Path.{_≡_, refl, sym, ap, ap₂, _∙_, subst}
 use mathlib.Core.Bool.{Bool, true, false, cond}
-use mathlib.Core.List.{List, [], _∷_, _++_}
+use mathlib.Core.List.{List, [], _∷_}
 use Prim.Native.Nat.{ℕ, zero, suc, _+_, _-_, _≤_, _<_}
 use native.Mathlib.Omega.{arith}
 use borrow.Author.Tests.{lt-ltb}
 use lib.Dec.{eqb}
-use lib.ListN.{length, getD, take, drop, length-append}
-use lib.Seq.{take-nil, take-take, take-at, take-length, drop-drop, drop-append-seam}
+use lib.ListN.{length, getD, take, drop}
+use lib.Seq.{take-nil, take-take, take-length, drop-drop}
 use Rattle.slices.specs.Parts.{part}
 use Rattle.slices.proofs.Parts.{getD-part}
 use Rattle.utf8.specs.Utf8.{utf8}
@@ -232,18 +232,6 @@ module _ (s t : List ℕ) (k : ℕ) (lies : Lies s t k) where
 -- ---- a value with others after it, and with more room
 none-before : (n : ℕ) → 0 + n ≡ n
 none-before n = omega arith
-
--- what is followed by more bytes lies in front of them
-pub lies-before : (s t : List ℕ) → Lies s (s ++ t) 0
-lies-before s t = record { bytes = take-at s t (length s) refl; inside = omega (arith, length-append s t) }
-
--- what stands between others
-pub lies-between : (r s t : List ℕ) → Lies s (r ++ (s ++ t)) (length r)
-lies-between r s t =
-    record {
-      bytes = ap (take (length s)) (drop-append-seam r (s ++ t)) ∙ take-at s t (length s) refl;
-      inside = omega (arith, length-append r (s ++ t), length-append s t);
-    }
 
 pub lies-itself : (s : List ℕ) → Lies s s 0
 lies-itself s = record { bytes = take-length s; inside = omega arith }

@@ -16,4 +16,3 @@ pub mod Shortest
 pub mod Offsets
 pub mod Embedding
 pub mod Placement
-pub mod Building

@@ -12,9 +12,8 @@ use Rattle.utf8.specs.Utf8.{utf8}
 use Rattle.refusal.specs.Answer.{Placed, hasPlace}
 use Rattle.refusal.specs.Numbers.{numberOf}
 use Rattle.refusal.proofs.Answer.{anywhere}
-use Rattle.refusal.specs.declared.Refusal.{Refusal}
-use Rattle.refusal.specs.declared.Refusal.the-variants.{TooLong, ValueTruncated, ReservedMarker, TooDeep, InvalidUtf8, KeyNotString, DuplicateKey, TrailingBytes}
-use Rattle.packstream.specs.Value.{Value, Items, item, Entries, entry, list, dictionary, structure}
+use Rattle.refusal.specs.declared.Refusal.the-variants.{TooLong, ValueTruncated, TooDeep, InvalidUtf8, KeyNotString, DuplicateKey, TrailingBytes}
+use Rattle.packstream.specs.Value.{Value, item, entry, list, dictionary, structure}
 use Rattle.packstream.specs.Marker.{markerOf, isString}
 use Rattle.packstream.specs.declared.marker.Leaf.{Leaf}
 use Rattle.packstream.specs.declared.marker.Container.{Container}
@@ -24,7 +23,7 @@ use Rattle.packstream.specs.declared.marker.Kind.the-variants as K
 use Rattle.packstream.specs.declared.marker.Marker.{Marker}
 use Rattle.packstream.specs.declared.extent.Extent.{Extent}
 use Rattle.packstream.specs.declared.extent.Extent.the-variants as E
-use Rattle.packstream.specs.Decode.{sizeAt, onSize, leafExtent, containerExtent, kindExtent, extentAt, keyKindExtent, keyExtentAt, Parse, parsed, failed, andThen, mapped, leafValue, isText, leafAt, items, repeats, KeyText, keyOf, keyAt, entries, structureAt, containerAt, valueOf, valueAt, valueIn, whole, messageOf, mostBytes, mostOpen, answerOf, decode}
+use Rattle.packstream.specs.Decode.{sizeAt, onSize, leafExtent, containerExtent, kindExtent, extentAt, keyKindExtent, keyExtentAt, Parse, parsed, failed, andThen, mapped, leafValue, isText, leafAt, items, repeats, KeyText, keyOf, keyAt, entries, containerAt, valueOf, valueAt, valueIn, whole, messageOf, mostBytes, mostOpen, answerOf, decode}
 
 -- ---- extents
 abbrev PlacedExtent : Extent → Type 0

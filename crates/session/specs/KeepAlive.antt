@@ -1,7 +1,7 @@
 -- A keep-alive changes nothing and is answered by nothing: document 01, "For a keep-alive the frame reader gives no message, so nothing
 -- arrives". Proved in proofs/KeepAlive.antt. Assumes nothing.
 use Prim.Native.Nat.{ℕ}
-use mathlib.Core.Bool.{Bool, true}
+use mathlib.Core.Bool.{true}
 use mathlib.Core.List.{List, [], _∷_}
 use mathlib.Core.Path.{_≡_}
 use lib.ListN.{length}

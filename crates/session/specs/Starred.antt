@@ -1,6 +1,5 @@
 -- The starred cases of document 01's "Cases at the edges", of every layer, in one table under one statement. Assumes nothing.
 use Prim.Native.Nat.{ℕ}
-use mathlib.Core.Bool.{Bool, true, false}
 use mathlib.Core.List.{List, [], _∷_, map}
 use mathlib.Core.Path.{_≡_, refl}
 use lib.Count.{leadingZeros}

@@ -168,14 +168,3 @@ sequence-le lead s = by-row (λ (n m : ℕ). n ≤ suc (length s)) s s (omega ar
         go : (t : Bool) → completes (suc k - 1) least v s ≡ t → cond t (suc k) 0 ≤ suc (length s)
         go true e = omega (arith, completes-fits (suc k - 1) least v s e)
         go false e = omega arith
-
--- and stays as it is, whatever follows
-pub sequence-append : (lead : ℕ) (s t : List ℕ) → (sequence lead s ≡ 0 → ⊥) → sequence lead (s ++ t) ≡ sequence lead s
-sequence-append lead s t = by-row (λ (n m : ℕ). (n ≡ 0 → ⊥) → m ≡ n) s (s ++ t) (λ h. refl) (λ h. refl) sized-append lead
-  where
-    sized-append : (k least v : ℕ) → (sized (suc k) least v s ≡ 0 → ⊥) → sized (suc k) least v (s ++ t) ≡ sized (suc k) least v s
-    sized-append k least v = go (completes (suc k - 1) least v s) refl
-      where
-        go : (u : Bool) → completes (suc k - 1) least v s ≡ u → (cond u (suc k) 0 ≡ 0 → ⊥) → sized (suc k) least v (s ++ t) ≡ cond u (suc k) 0
-        go true e h = rw (completes-append (suc k - 1) least v s t e)
-        go false e h = absurd (h refl)

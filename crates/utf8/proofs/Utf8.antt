@@ -1,16 +1,14 @@
 -- Laws of UTF-8 as one sequence after another: what the check's loop and the layers above go by. Assumes nothing.
 use mathlib.Core.Path.{_≡_, refl, sym, ap, _∙_}
-use mathlib.Core.Bool.{true, false, not, and-eq-true-iff}
-use mathlib.Core.List.{List, [], _∷_, _++_}
+use mathlib.Core.Bool.{true, false}
+use mathlib.Core.List.{List, [], _∷_}
 use Prim.Native.Nat.{ℕ, zero, suc, _+_, _-_, _≤_, _<_}
-use native.Mathlib.Nat.{not-suc-le-zero, le-of-suc-le-suc}
 use native.Mathlib.Omega.{arith}
-use borrow.Author.Tests.{eqb-false, ne-eqb, not-true}
-use lib.Dec.{eqb}
+use borrow.Author.Tests.{ne-eqb}
 use lib.ListN.{length, getD, drop, length-drop, drop-of-length-le}
 use lib.Seq.{drop-drop}
 use Rattle.utf8.specs.Utf8.{sequence, sequencesFrom, utf8}
-use Rattle.utf8.proofs.Sequences.{at-place, sequence-ascii, sequence-le, sequence-append}
+use Rattle.utf8.proofs.Sequences.{at-place, sequence-ascii, sequence-le}
 
 -- no bytes
 pub utf8-nil : utf8 [] ≡ true
@@ -32,21 +30,6 @@ utf8-cons lead s h = rw (ne-eqb (sequence lead s) 0 h) (skipped (sequence lead s
     skipped zero (b ∷ t) = refl
     skipped (suc skip) [] = refl
     skipped (suc skip) (b ∷ t) = skipped skip t
-
--- UTF-8: what follows it decides
-pub utf8-append : (s t : List ℕ) → utf8 s ≡ true → utf8 (s ++ t) ≡ utf8 t
-unfolding utf8 sequencesFrom
-utf8-append s t e = from 0 s (omega arith) e
-  where
-    from : (skip : ℕ) (r : List ℕ) → skip ≤ length r → sequencesFrom skip r ≡ true → sequencesFrom skip (r ++ t) ≡ utf8 t
-    from zero [] h e = refl
-    from (suc skip) [] h e = absurd (not-suc-le-zero h)
-    from (suc skip) (b ∷ r) h e = from skip r (le-of-suc-le-suc h) e
-    from zero (lead ∷ r) h e =
-        let n : ℕ = sequence lead r in
-        let both = and-eq-true-iff (not (eqb n 0)) (sequencesFrom (n - 1) r) .0 e in
-        rw (sequence-append lead r t (eqb-false n 0 (not-true (eqb n 0) (both .0))), both .0)
-        (from (n - 1) r (omega (arith, sequence-le lead r)) (both .1))
 
 -- an ASCII byte: what follows it decides
 pub utf8-ascii-cons : (b : ℕ) (s : List ℕ) → b < 0x80 → utf8 (b ∷ s) ≡ utf8 s

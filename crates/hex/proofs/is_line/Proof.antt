@@ -25,22 +25,10 @@ returns-2 c = sym (line-odd _ (c .before .if1 .left) (c .if2 .taken))
 loop-holds : tie.Need-loop-holds Inv-loop μ-loop
 loop-holds c = (omega arith, line-even _ (c .before .if1 .left) (c .if2 .left))
 
-shared-slice-read-is-digit : tie.Need-shared-slice-read-is-digit Inv-loop μ-loop
-shared-slice-read-is-digit c = omega arith
-
-is-digit-requires : tie.Need-is-digit-requires Inv-loop μ-loop
-is-digit-requires c κs = search needs
-
 returns-3 : tie.Need-returns-3 Inv-loop μ-loop
 returns-3 c =
     let l = c .before .before .before .before .loop in
     sym (l .inv .1 ∙ digits-next _ (l .i) (omega arith) ∙ simp (sym (c .before .is-digit .ensures) ∙ not-true _ (c .if3 .taken)))
-
-add-i : tie.Need-add-i Inv-loop μ-loop
-add-i c = omega arith
-
-loop-less : tie.Need-loop-less Inv-loop μ-loop
-loop-less c = omega arith
 
 loop-again : tie.Need-loop-again Inv-loop μ-loop
 loop-again c =
@@ -59,10 +47,10 @@ is-line-spec =
     returns
     returns-2
     loop-holds
-    shared-slice-read-is-digit
-    is-digit-requires
+    (λ c. omega arith)
+    (λ c κs. search needs)
     returns-3
-    add-i
-    loop-less
+    (λ c. omega arith)
+    (λ c. omega arith)
     loop-again
     returns-4)

@@ -17,45 +17,15 @@ abbrev μ-loop : tie.MeasureT-loop
 loop-holds : tie.Need-loop-holds Inv-loop μ-loop
 loop-holds c = (omega arith, refl, put-none _ _)
 
-mul-value-of : tie.Need-mul-value-of Inv-loop μ-loop
-mul-value-of c = omega arith
-
-shared-slice-read-value-of : tie.Need-shared-slice-read-value-of Inv-loop μ-loop
-shared-slice-read-value-of c = omega arith
-
 value-of-requires : tie.Need-value-of-requires Inv-loop μ-loop
 value-of-requires c κs =
     let b = c .before .before .before .before .before in
     line-digit _ (b .pre .0) (2 * (c .before .before .loop .i)) (omega arith)
 
-mul-value-of-2 : tie.Need-mul-value-of-2 Inv-loop μ-loop
-mul-value-of-2 c = omega arith
-
-add-value-of : tie.Need-add-value-of Inv-loop μ-loop
-add-value-of c = omega arith
-
-shared-slice-read-value-of-2 : tie.Need-shared-slice-read-value-of-2 Inv-loop μ-loop
-shared-slice-read-value-of-2 c = omega arith
-
 value-of-requires-2 : tie.Need-value-of-requires-2 Inv-loop μ-loop
 value-of-requires-2 c κs =
     let b = c .before .before .before .before .before .before .before in
     line-digit _ (b .pre .0) (2 * (c .before .before .before .before .loop .i) + 1) (omega arith)
-
-mul-out : tie.Need-mul-out Inv-loop μ-loop
-mul-out c = omega arith
-
-add-out : tie.Need-add-out Inv-loop μ-loop
-add-out c = omega arith
-
-slice-write-out : tie.Need-slice-write-out Inv-loop μ-loop
-slice-write-out c = omega arith
-
-add-i : tie.Need-add-i Inv-loop μ-loop
-add-i c = omega arith
-
-loop-less : tie.Need-loop-less Inv-loop μ-loop
-loop-less c = omega arith
 
 loop-again : tie.Need-loop-again Inv-loop μ-loop
 loop-again c =
@@ -80,18 +50,18 @@ put-bytes-spec =
     Inv-loop
     μ-loop
     loop-holds
-    mul-value-of
-    shared-slice-read-value-of
+    (λ c. omega arith)
+    (λ c. omega arith)
     value-of-requires
-    mul-value-of-2
-    add-value-of
-    shared-slice-read-value-of-2
+    (λ c. omega arith)
+    (λ c. omega arith)
+    (λ c. omega arith)
     value-of-requires-2
-    mul-out
-    add-out
-    slice-write-out
-    add-i
-    loop-less
+    (λ c. omega arith)
+    (λ c. omega arith)
+    (λ c. omega arith)
+    (λ c. omega arith)
+    (λ c. omega arith)
     loop-again
     same-length
     returns)

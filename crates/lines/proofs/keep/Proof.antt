@@ -7,25 +7,10 @@ use Rattle.lines.proofs.keep.Tie as tie
 returns : tie.Need-returns
 returns c = let a = c .before .before .args in kept-none _ (a .start) (a .size) (c .if1 .taken)
 
-sub-left : tie.Need-sub-left
-sub-left c = search needs
-
-shift-requires : tie.Need-shift-requires
-shift-requires c κs = search needs
-
-same-length : tie.Need-same-length
-same-length c = search needs
-
 returns-2 : tie.Need-returns-2
 returns-2 c =
     let b = c .before .before .before .before in
     kept-cut _ _ _ (b .before .if1 .left) (b .if2 .taken) (c .before .before .shift .ensures)
-
-shift-requires-2 : tie.Need-shift-requires-2
-shift-requires-2 c κs = search needs
-
-same-length-2 : tie.Need-same-length-2
-same-length-2 c = search needs
 
 returns-3 : tie.Need-returns-3
 returns-3 c =
@@ -37,10 +22,10 @@ keep-spec =
     tie.close
     (tie.spec
     returns
-    sub-left
-    shift-requires
-    same-length
+    (λ c. search needs)
+    (λ c κs. search needs)
+    (λ c. search needs)
     returns-2
-    shift-requires-2
-    same-length-2
+    (λ c κs. search needs)
+    (λ c. search needs)
     returns-3)

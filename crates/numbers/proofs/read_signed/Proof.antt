@@ -8,12 +8,6 @@ use Rattle.numbers.proofs.Access.{width-least, width-most, unsigned-fou
 use Rattle.numbers.proofs.read_signed.Statement.{statement}
 use Rattle.numbers.proofs.read_signed.Tie as tie
 
-read-unsigned-requires : tie.Need-read-unsigned-requires
-read-unsigned-requires c κs = search needs
-
-enum-known-number : tie.Need-enum-known-number
-enum-known-number c = search needs
-
 signed-of-requires : tie.Need-signed-of-requires
 signed-of-requires c κs =
     let k = c .before .before .before .before in
@@ -27,9 +21,6 @@ signed-of-requires c κs =
 
 enum-told : tie.Need-enum-told
 enum-told c = search needs
-
-enum-told-2 : tie.Need-enum-told-2
-enum-told-2 c = search needs
 
 returns : tie.Need-returns
 returns c =
@@ -48,11 +39,11 @@ pub read-signed-spec : {M : Type 1} → statement M
 read-signed-spec =
     tie.close
     (tie.spec
-    read-unsigned-requires
-    enum-known-number
+    (λ c κs. search needs)
+    (λ c. search needs)
     signed-of-requires
     enum-told
-    enum-told-2
+    (λ c. search needs)
     returns
     returns-2
     returns-3)

@@ -22,16 +22,10 @@ Inv-loop bytes at width number₀ i₀ number i =
 abbrev μ-loop : tie.MeasureT-loop
 μ-loop bytes at width number₀ i₀ number i = width - i
 
-is-width-requires : tie.Need-is-width-requires Inv-loop μ-loop
-is-width-requires c κs = search needs
-
 returns : tie.Need-returns Inv-loop μ-loop
 returns c =
     let a = c .before .before .before .args in
     unsigned-invalid (a .bytes .now) (a .at) (a .width) (failed (c .before .is-width .ensures) (c .if1 .taken))
-
-in-bounds-requires : tie.Need-in-bounds-requires Inv-loop μ-loop
-in-bounds-requires c κs = search needs
 
 returns-2 : tie.Need-returns-2 Inv-loop μ-loop
 returns-2 c =
@@ -59,12 +53,6 @@ mul-number c =
     let l = c .before .loop in
     omega (arith, load-room (l .number) (l .i) (a .width) (l .inv .3) (c .loop-test .taken) (width-most (a .width) (l .inv .0 .width)))
 
-add-number : tie.Need-add-number Inv-loop μ-loop
-add-number c = omega arith
-
-shared-slice-read-number : tie.Need-shared-slice-read-number Inv-loop μ-loop
-shared-slice-read-number c = omega arith
-
 cast-number : tie.Need-cast-number Inv-loop μ-loop
 cast-number c =
     let a = c .before .before .before .before .before .before .before .before .args in
@@ -79,12 +67,6 @@ add-number-2 c =
       c .shared-slice-known2 .given (a .at + l .i),
       load-room (l .number) (l .i) (a .width) (l .inv .3) (c .before .loop-test .taken) (width-most (a .width) (l .inv .0 .width)),
     )
-
-add-i : tie.Need-add-i Inv-loop μ-loop
-add-i c = omega arith
-
-loop-less : tie.Need-loop-less Inv-loop μ-loop
-loop-less c = omega arith
 
 loop-again : tie.Need-loop-again Inv-loop μ-loop
 loop-again c =
@@ -111,17 +93,17 @@ read-unsigned-spec =
     (tie.spec
     Inv-loop
     μ-loop
-    is-width-requires
+    (λ c κs. search needs)
     returns
-    in-bounds-requires
+    (λ c κs. search needs)
     returns-2
     loop-holds
     mul-number
-    add-number
-    shared-slice-read-number
+    (λ c. omega arith)
+    (λ c. omega arith)
     cast-number
     add-number-2
-    add-i
-    loop-less
+    (λ c. omega arith)
+    (λ c. omega arith)
     loop-again
     returns-3)

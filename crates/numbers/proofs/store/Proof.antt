@@ -21,9 +21,6 @@ Inv-loop bytes₀ at width number left₀ i₀ bytes left i =
 abbrev μ-loop : tie.MeasureT-loop
 μ-loop bytes₀ at width number left₀ i₀ bytes left i = left
 
-in-bounds-requires : tie.Need-in-bounds-requires Inv-loop μ-loop
-in-bounds-requires c κs = search needs
-
 returns : tie.Need-returns Inv-loop μ-loop
 returns c = rw (failed (c .before .in-bounds .ensures) (c .if1 .taken)) (refl, refl)
 
@@ -31,27 +28,6 @@ loop-holds : tie.Need-loop-holds Inv-loop μ-loop
 loop-holds c =
     let a = c .before .before .before .args in
     (reaches-le (a .bytes .now) (a .at) (a .width) (passed (c .before .in-bounds .ensures) (c .if1 .left)), omega arith, omega arith, refl, refl)
-
-sub-left : tie.Need-sub-left Inv-loop μ-loop
-sub-left c = omega arith
-
-mul-bytes : tie.Need-mul-bytes Inv-loop μ-loop
-mul-bytes c = omega arith
-
-shr-bytes : tie.Need-shr-bytes Inv-loop μ-loop
-shr-bytes c = omega arith
-
-cast-bytes : tie.Need-cast-bytes Inv-loop μ-loop
-cast-bytes c = omega arith
-
-slice-write-bytes : tie.Need-slice-write-bytes Inv-loop μ-loop
-slice-write-bytes c = omega arith
-
-add-i : tie.Need-add-i Inv-loop μ-loop
-add-i c = omega arith
-
-loop-less : tie.Need-loop-less Inv-loop μ-loop
-loop-less c = omega arith
 
 loop-again : tie.Need-loop-again Inv-loop μ-loop
 loop-again c =
@@ -85,16 +61,16 @@ store-spec =
     (tie.spec
     Inv-loop
     μ-loop
-    in-bounds-requires
+    (λ c κs. search needs)
     returns
     loop-holds
-    sub-left
-    mul-bytes
-    shr-bytes
-    cast-bytes
-    slice-write-bytes
-    add-i
-    loop-less
+    (λ c. omega arith)
+    (λ c. omega arith)
+    (λ c. omega arith)
+    (λ c. omega arith)
+    (λ c. omega arith)
+    (λ c. omega arith)
+    (λ c. omega arith)
     loop-again
     same-length
     returns-2)

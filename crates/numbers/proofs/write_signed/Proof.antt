@@ -21,16 +21,10 @@ held d =
     let f = d .before .before .before .before .before .fits .number in
     rw (valid (d .before .before), toZ-ofZ f) at (passed (d .before .fits-signed .ensures) (d .if2 .left))
 
-is-width-requires : tie.Need-is-width-requires
-is-width-requires c κs = search needs
-
 returns : tie.Need-returns
 returns c =
     let a = c .before .before .before .args in
     (storing-invalid _ (a .bytes .now) (a .at) (a .width) (failed (c .before .is-width .ensures) (c .if1 .taken)), refl)
-
-fits-signed-requires : tie.Need-fits-signed-requires
-fits-signed-requires c κs = search needs
 
 returns-2 : tie.Need-returns-2
 returns-2 c =
@@ -47,9 +41,6 @@ bits-of-requires c κs =
 store-requires : tie.Need-store-requires
 store-requires c κs = width-most _ (valid (c .before .before .before .before))
 
-same-length : tie.Need-same-length
-same-length c = search needs
-
 returns-3 : tie.Need-returns-3
 returns-3 c =
     let p = c .before .before in
@@ -65,11 +56,11 @@ pub write-signed-spec : {M : Type 1} → statement M
 write-signed-spec =
     tie.close
     (tie.spec
-    is-width-requires
+    (λ c κs. search needs)
     returns
-    fits-signed-requires
+    (λ c κs. search needs)
     returns-2
     bits-of-requires
     store-requires
-    same-length
+    (λ c. search needs)
     returns-3)

@@ -12,9 +12,6 @@ use Rattle.numbers.proofs.write_unsigned.Tie as tie
 valid : (d : tie.Else1) → isWidth (d .before .before .before .args .width) ≡ true
 valid d = passed (d .before .is-width .ensures) (d .if1 .left)
 
-is-width-requires : tie.Need-is-width-requires
-is-width-requires c κs = search needs
-
 returns : tie.Need-returns
 returns c =
     let a = c .before .before .before .args in
@@ -33,9 +30,6 @@ returns-2 c =
 store-requires : tie.Need-store-requires
 store-requires c κs = width-most _ (valid (c .before .before .before))
 
-same-length : tie.Need-same-length
-same-length c = search needs
-
 returns-3 : tie.Need-returns-3
 returns-3 c =
     let p = c .before .before in
@@ -51,10 +45,10 @@ pub write-unsigned-spec : {M : Type 1} → statement M
 write-unsigned-spec =
     tie.close
     (tie.spec
-    is-width-requires
+    (λ c κs. search needs)
     returns
     largest-requires
     returns-2
     store-requires
-    same-length
+    (λ c. search needs)
     returns-3)

@@ -21,9 +21,6 @@ returns c =
     let a = c .before .args in
     rw (source-short (a .source .now) (a .start) (a .size) (a .target .now) (a .at) (omega arith)) (refl, refl)
 
-sub-if2 : tie.Need-sub-if2 Inv-loop μ-loop
-sub-if2 c = omega arith
-
 returns-2 : tie.Need-returns-2 Inv-loop μ-loop
 returns-2 c =
     let a = c .before .before .args in
@@ -34,9 +31,6 @@ returns-3 c =
     let a = c .before .before .before .args in
     rw (target-short (a .source .now) (a .start) (a .size) (a .target .now) (a .at) (omega arith)) (refl, refl)
 
-sub-if4 : tie.Need-sub-if4 Inv-loop μ-loop
-sub-if4 c = omega arith
-
 returns-4 : tie.Need-returns-4 Inv-loop μ-loop
 returns-4 c =
     let a = c .before .before .before .before .args in
@@ -46,24 +40,6 @@ loop-holds : tie.Need-loop-holds Inv-loop μ-loop
 loop-holds c =
     let a = c .before .before .before .before .args in
     (omega arith, omega arith, omega arith, refl, copying-none (a .source .now) (a .start) (a .size) (a .target .now) (a .at))
-
-add-target : tie.Need-add-target Inv-loop μ-loop
-add-target c = omega arith
-
-shared-slice-read-target : tie.Need-shared-slice-read-target Inv-loop μ-loop
-shared-slice-read-target c = omega arith
-
-add-target-2 : tie.Need-add-target-2 Inv-loop μ-loop
-add-target-2 c = omega arith
-
-slice-write-target : tie.Need-slice-write-target Inv-loop μ-loop
-slice-write-target c = omega arith
-
-add-i : tie.Need-add-i Inv-loop μ-loop
-add-i c = omega arith
-
-loop-less : tie.Need-loop-less Inv-loop μ-loop
-loop-less c = omega arith
 
 loop-again : tie.Need-loop-again Inv-loop μ-loop
 loop-again c =
@@ -93,18 +69,18 @@ copy-spec =
     Inv-loop
     μ-loop
     returns
-    sub-if2
+    (λ c. omega arith)
     returns-2
     returns-3
-    sub-if4
+    (λ c. omega arith)
     returns-4
     loop-holds
-    add-target
-    shared-slice-read-target
-    add-target-2
-    slice-write-target
-    add-i
-    loop-less
+    (λ c. omega arith)
+    (λ c. omega arith)
+    (λ c. omega arith)
+    (λ c. omega arith)
+    (λ c. omega arith)
+    (λ c. omega arith)
     loop-again
     same-length
     returns-5)

@@ -14,9 +14,6 @@ Inv-loop bytes at size least bits scalar₀ i₀ scalar i = Reading bytes at siz
 abbrev μ-loop : tie.MeasureT-loop
 μ-loop bytes at size least bits scalar₀ i₀ scalar i = size - i
 
-sub-if1 : tie.Need-sub-if1 Inv-loop μ-loop
-sub-if1 c = search needs
-
 returns : tie.Need-returns Inv-loop μ-loop
 returns c =
     let a = c .before .before .args in
@@ -26,15 +23,6 @@ loop-holds : tie.Need-loop-holds Inv-loop μ-loop
 loop-holds c =
     let a = c .before .before .args in
     reading (a .bytes .now) (a .at) (a .size) (a .least) (a .bits) (omega arith) (omega arith) (omega arith)
-
-add-b : tie.Need-add-b Inv-loop μ-loop
-add-b c = search needs
-
-shared-slice-read-b : tie.Need-shared-slice-read-b Inv-loop μ-loop
-shared-slice-read-b c = search needs
-
-is-continuation-requires : tie.Need-is-continuation-requires Inv-loop μ-loop
-is-continuation-requires c κs = search needs
 
 returns-2 : tie.Need-returns-2 Inv-loop μ-loop
 returns-2 c =
@@ -46,12 +34,6 @@ shift-in-requires c κs =
     let l = c .before .before .before .before .loop in
     room (l .inv) (omega arith) (omega arith)
 
-add-i : tie.Need-add-i Inv-loop μ-loop
-add-i c = search needs
-
-loop-less : tie.Need-loop-less Inv-loop μ-loop
-loop-less c = search needs
-
 loop-again : tie.Need-loop-again Inv-loop μ-loop
 loop-again c =
     let l = c .before .before .before .before .before .loop in
@@ -62,9 +44,6 @@ returns-3 : tie.Need-returns-3 Inv-loop μ-loop
 returns-3 c =
     let l = c .before .before .loop in
     overlong (l .inv) (omega arith) (c .if3 .taken)
-
-is-scalar-requires : tie.Need-is-scalar-requires Inv-loop μ-loop
-is-scalar-requires c κs = search needs
 
 returns-4 : tie.Need-returns-4 Inv-loop μ-loop
 returns-4 c =
@@ -82,18 +61,18 @@ complete-spec =
     (tie.spec
     Inv-loop
     μ-loop
-    sub-if1
+    (λ c. search needs)
     returns
     loop-holds
-    add-b
-    shared-slice-read-b
-    is-continuation-requires
+    (λ c. search needs)
+    (λ c. search needs)
+    (λ c κs. search needs)
     returns-2
     shift-in-requires
-    add-i
-    loop-less
+    (λ c. search needs)
+    (λ c. search needs)
     loop-again
     returns-3
-    is-scalar-requires
+    (λ c κs. search needs)
     returns-4
     returns-5)

@@ -15,40 +15,10 @@ returns c =
     let a = c .before .before .args in
     sym (ap utf8 (part-past (a .bytes .now) (a .start) (a .size) (c .if1 .taken)) ∙ utf8-nil)
 
-sub-if2 : tie.Need-sub-if2
-sub-if2 c = search needs
-
-sub-is-utf8 : tie.Need-sub-is-utf8
-sub-is-utf8 c = search needs
-
-part-is-utf8-start : tie.Need-part-is-utf8-start
-part-is-utf8-start c = search needs
-
-part-is-utf8-end : tie.Need-part-is-utf8-end
-part-is-utf8-end c = search needs
-
-is-utf8-requires : tie.Need-is-utf8-requires
-is-utf8-requires c κs = search needs
-
 returns-2 : tie.Need-returns-2
 returns-2 c =
     let a = c .before .before .before .before .before .args in
     c .is-utf8 .ensures ∙ ap utf8 (part-cut (a .bytes .now) (a .start) (a .size) (omega arith))
-
-add-end : tie.Need-add-end
-add-end c = search needs
-
-sub-is-utf8-2 : tie.Need-sub-is-utf8-2
-sub-is-utf8-2 c = search needs
-
-part-is-utf8-start-2 : tie.Need-part-is-utf8-start-2
-part-is-utf8-start-2 c = search needs
-
-part-is-utf8-end-2 : tie.Need-part-is-utf8-end-2
-part-is-utf8-end-2 c = search needs
-
-is-utf8-requires-2 : tie.Need-is-utf8-requires-2
-is-utf8-requires-2 c κs = search needs
 
 returns-3 : tie.Need-returns-3
 returns-3 c =
@@ -61,15 +31,15 @@ is-utf8-part-spec =
     tie.close
     (tie.spec
     returns
-    sub-if2
-    sub-is-utf8
-    part-is-utf8-start
-    part-is-utf8-end
-    is-utf8-requires
+    (λ c. search needs)
+    (λ c. search needs)
+    (λ c. search needs)
+    (λ c. search needs)
+    (λ c κs. search needs)
     returns-2
-    add-end
-    sub-is-utf8-2
-    part-is-utf8-start-2
-    part-is-utf8-end-2
-    is-utf8-requires-2
+    (λ c. search needs)
+    (λ c. search needs)
+    (λ c. search needs)
+    (λ c. search needs)
+    (λ c κs. search needs)
     returns-3)

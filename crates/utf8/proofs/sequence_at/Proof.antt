@@ -17,9 +17,6 @@ lead s = getD (s .args .bytes .now) (s .args .at) 0
 abbrev rest : tie.Start → List ℕ
 rest s = drop (s .args .at + 1) (s .args .bytes .now)
 
-shared-slice-read-lead : tie.Need-shared-slice-read-lead
-shared-slice-read-lead c = search needs
-
 returns : tie.Need-returns
 returns c =
     let s = c .before .before .before in
@@ -58,7 +55,7 @@ pub sequence-at-spec : {M : Type 1} → statement M
 sequence-at-spec =
     tie.close
     (tie.spec
-    shared-slice-read-lead
+    (λ c. search needs)
     returns
     complete-requires
     returns-2

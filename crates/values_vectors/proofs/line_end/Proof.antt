@@ -5,18 +5,6 @@ use borrow.Author.Needs.{needs}
 use Rattle.values_vectors.proofs.line_end.Statement.{statement}
 use Rattle.values_vectors.proofs.line_end.Tie as tie
 
-sub-first-length : tie.Need-sub-first-length
-sub-first-length c = search needs
-
-part-first-length-start : tie.Need-part-first-length-start
-part-first-length-start c = search needs
-
-part-first-length-end : tie.Need-part-first-length-end
-part-first-length-end c = search needs
-
-first-length-requires : tie.Need-first-length-requires
-first-length-requires c κs = search needs
-
 add-result : tie.Need-add-result
 add-result c = omega (arith, first-fits _ (c .first-length .ensures))
 
@@ -27,9 +15,9 @@ pub line-end-spec : {M : Type 1} → statement M
 line-end-spec =
     tie.close
     (tie.spec
-    sub-first-length
-    part-first-length-start
-    part-first-length-end
-    first-length-requires
+    (λ c. search needs)
+    (λ c. search needs)
+    (λ c. search needs)
+    (λ c κs. search needs)
     add-result
     returns)

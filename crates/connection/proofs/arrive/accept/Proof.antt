@@ -20,21 +20,6 @@ fit s = record {
   fewer = s .pre .few;
 }
 
-tag-requires : tie.Need-tag-requires
-tag-requires c κs = search needs
-
-is-in-requires : tie.Need-is-in-requires
-is-in-requires c κs = search needs
-
-counted-requires : tie.Need-counted-requires
-counted-requires c κs = search needs
-
-defunct-requires : tie.Need-defunct-requires
-defunct-requires c κs = search needs
-
-answer-requires : tie.Need-answer-requires
-answer-requires c κs = search needs
-
 returns : tie.Need-returns
 returns c =
     let s = c .before .before .before .before .before .before .before .before in
@@ -42,21 +27,12 @@ returns c =
     ap toldArrive (c .answer .ensures ∙ ap (λ (d : Control). record { connection = joined d (a .queue); answer = Closed }) (c .before .defunct .ensures ∙ ap defunctIn (c .before .before .counted .ensures)))
     ∙ accept-closes (a .control) (a .queue) (fit s) (a .request) (eq-eqb _ _ (sym (c .before .before .before .before .before .before .tag .ensures) ∙ c .before .before .before .before .before .if1 .taken)) (sym (c .before .before .before .before .is-in .ensures) ∙ c .before .before .before .if2 .taken)
 
-none-open-requires : tie.Need-none-open-requires
-none-open-requires c κs = search needs
-
-enqueue-requires : tie.Need-enqueue-requires
-enqueue-requires c κs = search needs
-
 returns-2 : tie.Need-returns-2
 returns-2 c =
     let s = c .before .before .before .before .before .before .before in
     let a = s .args in
     ap toldArrive (c .enqueue .ensures)
     ∙ accept-resets (a .control) (a .queue) (fit s) (a .request) (c .before .none-open .result) (c .before .none-open .ensures) (eq-eqb _ _ (sym (c .before .before .before .before .before .tag .ensures) ∙ c .before .before .before .before .if1 .taken)) (sym (c .before .before .before .is-in .ensures) ∙ c .before .before .if2 .left)
-
-enqueue-requires-2 : tie.Need-enqueue-requires-2
-enqueue-requires-2 c κs = search needs
 
 returns-3 : tie.Need-returns-3
 returns-3 c =
@@ -68,14 +44,14 @@ pub accept-spec : {M : Type 1} → statement M
 accept-spec =
     tie.close
     (tie.spec
-    tag-requires
-    is-in-requires
-    counted-requires
-    defunct-requires
-    answer-requires
+    (λ c κs. search needs)
+    (λ c κs. search needs)
+    (λ c κs. search needs)
+    (λ c κs. search needs)
+    (λ c κs. search needs)
     returns
-    none-open-requires
-    enqueue-requires
+    (λ c κs. search needs)
+    (λ c κs. search needs)
     returns-2
-    enqueue-requires-2
+    (λ c κs. search needs)
     returns-3)

@@ -31,46 +31,22 @@ goes : (d : tie.Else2) {a b f : Bool} → inRange (d .before .before .before .be
     ≡ arriveOf (w d) (d .before .before .before .before .args .request)
 goes d p q u = ap (carried (w d)) (arrive-by (kept (w d)) (d .before .before .before .before .args .request) p q u) ∙ go-on (w d) _ (keeps d) (sym (d .before .is-in .ensures) ∙ d .if2 .left)
 
-keeps-rules-requires : tie.Need-keeps-rules-requires
-keeps-rules-requires c κs = search needs
-
-answer-requires : tie.Need-answer-requires
-answer-requires c κs = search needs
-
 returns : tie.Need-returns
 returns c =
     let a = c .before .before .before .args in
     ap toldArrive (c .answer .ensures)
     ∙ broken (joined (a .control) (a .queue)) (arriveT (kept (joined (a .control) (a .queue))) (a .request)) (sym (c .before .before .keeps-rules .ensures) ∙ not-true _ (c .before .if1 .taken))
 
-is-in-requires : tie.Need-is-in-requires
-is-in-requires c κs = search needs
-
-answer-requires-2 : tie.Need-answer-requires-2
-answer-requires-2 c κs = search needs
-
 returns-2 : tie.Need-returns-2
 returns-2 c =
     let a = c .before .before .before .before .before .args in
     ap toldArrive (c .answer2 .ensures) ∙ refuse-defunct (joined (a .control) (a .queue)) _ (sym (c .before .before .before .before .keeps-rules .ensures) ∙ not-false _ (c .before .before .before .if1 .left)) (sym (c .before .before .is-in .ensures) ∙ c .before .if2 .taken)
 
-is-in-range-requires : tie.Need-is-in-range-requires
-is-in-range-requires c κs = search needs
-
-answer-requires-3 : tie.Need-answer-requires-3
-answer-requires-3 c κs = search needs
-
 returns-3 : tie.Need-returns-3
 returns-3 c = ap toldArrive (c .answer3 .ensures) ∙ goes (c .before .before .before) (sym (c .before .before .is-in-range .ensures) ∙ not-true _ (c .before .if3 .taken)) refl refl
 
-answer-requires-4 : tie.Need-answer-requires-4
-answer-requires-4 c κs = search needs
-
 returns-4 : tie.Need-returns-4
 returns-4 c = ap toldArrive (c .answer4 .ensures) ∙ goes (c .before .before .before .before .before) (sym (c .before .before .before .before .is-in-range .ensures) ∙ not-false _ (c .before .before .before .if3 .left)) (le-leb _ _ (c .before .if4 .taken)) refl
-
-answer-requires-5 : tie.Need-answer-requires-5
-answer-requires-5 c κs = search needs
 
 returns-5 : tie.Need-returns-5
 returns-5 c =
@@ -89,18 +65,18 @@ pub step-spec : {M : Type 1} → statement M
 step-spec =
     tie.close
     (tie.spec
-    keeps-rules-requires
-    answer-requires
+    (λ c κs. search needs)
+    (λ c κs. search needs)
     returns
-    is-in-requires
-    answer-requires-2
+    (λ c κs. search needs)
+    (λ c κs. search needs)
     returns-2
-    is-in-range-requires
-    answer-requires-3
+    (λ c κs. search needs)
+    (λ c κs. search needs)
     returns-3
-    answer-requires-4
+    (λ c κs. search needs)
     returns-4
-    answer-requires-5
+    (λ c κs. search needs)
     returns-5
     accept-requires
     returns-6)

@@ -11,23 +11,11 @@ use Rattle.connection.proofs.Calls.{broken, refuse-defunct, go-on}
 use Rattle.connection.proofs.close.step.Statement.{statement}
 use Rattle.connection.proofs.close.step.Tie as tie
 
-keeps-rules-requires : tie.Need-keeps-rules-requires
-keeps-rules-requires c κs = search needs
-
-answer-requires : tie.Need-answer-requires
-answer-requires c κs = search needs
-
 returns : tie.Need-returns
 returns c =
     let a = c .before .before .before .args in
     let c′ = joined (a .control) (a .queue) in
     ap toldClose (c .answer .ensures) ∙ broken c′ (closeT (kept c′)) (sym (c .before .before .keeps-rules .ensures) ∙ not-true _ (c .before .if1 .taken))
-
-is-in-requires : tie.Need-is-in-requires
-is-in-requires c κs = search needs
-
-answer-requires-2 : tie.Need-answer-requires-2
-answer-requires-2 c κs = search needs
 
 returns-2 : tie.Need-returns-2
 returns-2 c =
@@ -35,12 +23,6 @@ returns-2 c =
     let c′ = joined (a .control) (a .queue) in
     ap toldClose (c .answer2 .ensures)
     ∙ refuse-defunct c′ (result (record { table = defunct (kept c′); said = closed })) (sym (c .before .before .before .before .keeps-rules .ensures) ∙ not-false _ (c .before .before .before .if1 .left)) (sym (c .before .before .is-in .ensures) ∙ c .before .if2 .taken)
-
-defunct-requires : tie.Need-defunct-requires
-defunct-requires c κs = search needs
-
-answer-requires-3 : tie.Need-answer-requires-3
-answer-requires-3 c κs = search needs
 
 returns-3 : tie.Need-returns-3
 returns-3 c =
@@ -53,12 +35,12 @@ pub step-spec : {M : Type 1} → statement M
 step-spec =
     tie.close
     (tie.spec
-    keeps-rules-requires
-    answer-requires
+    (λ c κs. search needs)
+    (λ c κs. search needs)
     returns
-    is-in-requires
-    answer-requires-2
+    (λ c κs. search needs)
+    (λ c κs. search needs)
     returns-2
-    defunct-requires
-    answer-requires-3
+    (λ c κs. search needs)
+    (λ c κs. search needs)
     returns-3)

@@ -12,44 +12,11 @@ use Rattle.connection.proofs.report.after_success.Tie as tie
 enum-told : tie.Need-enum-told
 enum-told c = search needs
 
-enum-told-2 : tie.Need-enum-told-2
-enum-told-2 c = search needs
-
-enum-told-3 : tie.Need-enum-told-3
-enum-told-3 c = search needs
-
-enum-told-4 : tie.Need-enum-told-4
-enum-told-4 c = search needs
-
-is-in-requires : tie.Need-is-in-requires
-is-in-requires c κs = search needs
-
 returns : tie.Need-returns
 returns c =
     let s = c .before .before .before .before in
     let a = s .args in
     state-by (a .state) (a .request) _ (a .left) Streaming (c .before .before .enum-told4 .given .1) (λ h. sym (after-success (a .state) RUN h ∙ ap (λ (b : Bool). cond b Streaming TxStreaming) (sym (c .before .is-in .ensures) ∙ c .if1 .taken))) (s .pre)
-
-enum-told-5 : tie.Need-enum-told-5
-enum-told-5 c = search needs
-
-enum-told-6 : tie.Need-enum-told-6
-enum-told-6 c = search needs
-
-enum-told-7 : tie.Need-enum-told-7
-enum-told-7 c = search needs
-
-enum-told-8 : tie.Need-enum-told-8
-enum-told-8 c = search needs
-
-after-last-requires : tie.Need-after-last-requires
-after-last-requires c κs = search needs
-
-enum-told-9 : tie.Need-enum-told-9
-enum-told-9 c = search needs
-
-after-last-requires-2 : tie.Need-after-last-requires-2
-after-last-requires-2 c κs = search needs
 
 returns-2 : tie.Need-returns-2
 returns-2 c = let s = c .before .before in let a = s .args in state-by (a .state) (a .request) _ (a .left) Ready (c .enum-told .given .1) (λ h. sym (after-success (a .state) HELLO h)) (s .pre)
@@ -92,18 +59,18 @@ after-success-spec =
     tie.close
     (tie.spec
     enum-told
-    enum-told-2
-    enum-told-3
-    enum-told-4
-    is-in-requires
+    (λ c. search needs)
+    (λ c. search needs)
+    (λ c. search needs)
+    (λ c κs. search needs)
     returns
-    enum-told-5
-    enum-told-6
-    enum-told-7
-    enum-told-8
-    after-last-requires
-    enum-told-9
-    after-last-requires-2
+    (λ c. search needs)
+    (λ c. search needs)
+    (λ c. search needs)
+    (λ c. search needs)
+    (λ c κs. search needs)
+    (λ c. search needs)
+    (λ c κs. search needs)
     returns-2
     returns-3
     returns-4

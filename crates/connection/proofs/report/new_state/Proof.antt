@@ -12,18 +12,6 @@ use Rattle.connection.proofs.report.new_state.Tie as tie
 enum-told : tie.Need-enum-told
 enum-told c = search needs
 
-after-success-requires : tie.Need-after-success-requires
-after-success-requires c κs = search needs
-
-enum-told-2 : tie.Need-enum-told-2
-enum-told-2 c = search needs
-
-enum-told-3 : tie.Need-enum-told-3
-enum-told-3 c = search needs
-
-after-failure-requires : tie.Need-after-failure-requires
-after-failure-requires c κs = search needs
-
 returns : tie.Need-returns
 returns c = let a = c .before .before .before .args in c .after-success .ensures ∙ ap (λ (o : Outcome). newState (a .state) (kindOf (a .request)) (response o (a .request) (a .left))) (sym (c .before .enum-told .given .1))
 
@@ -44,10 +32,10 @@ new-state-spec =
     tie.close
     (tie.spec
     enum-told
-    after-success-requires
-    enum-told-2
-    enum-told-3
-    after-failure-requires
+    (λ c κs. search needs)
+    (λ c. search needs)
+    (λ c. search needs)
+    (λ c κs. search needs)
     returns
     returns-2
     returns-3)

@@ -54,15 +54,6 @@ reports d e =
     ∙ first-by (k d) (q d) (fit s) (s .pre .waits .some) (o d)
     (sym (d .before .before .before .fits2 .ensures ∙ ap (fitting (o d)) (d .before .before .before .before .first .ensures)) ∙ not-false _ (d .before .before .if1 .left))
 
-first-requires : tie.Need-first-requires
-first-requires c κs = search needs
-
-fits-requires : tie.Need-fits-requires
-fits-requires c κs = search needs
-
-answer-requires : tie.Need-answer-requires
-answer-requires c κs = search needs
-
 returns : tie.Need-returns
 returns c =
     let s = c .before .before .before .before in
@@ -71,12 +62,6 @@ returns c =
 
 summary-of-requires : tie.Need-summary-of-requires
 summary-of-requires c κs = c .before .before .before .before .pre .next
-
-is-in-requires : tie.Need-is-in-requires
-is-in-requires c κs = search needs
-
-sub-sum-up : tie.Need-sub-sum-up
-sub-sum-up c = search needs
 
 sum-up-requires : tie.Need-sum-up-requires
 sum-up-requires c κs = let p = c .before .before .before .before .before .before .before .before .pre .waits in (omega (arith, p .short, p .some), p .below)
@@ -112,13 +97,13 @@ pub report-first-spec : {M : Type 1} → statement M
 report-first-spec =
     tie.close
     (tie.spec
-    first-requires
-    fits-requires
-    answer-requires
+    (λ c κs. search needs)
+    (λ c κs. search needs)
+    (λ c κs. search needs)
     returns
     summary-of-requires
-    is-in-requires
-    sub-sum-up
+    (λ c κs. search needs)
+    (λ c. search needs)
     sum-up-requires
     returns-2
     settle-requires

@@ -12,9 +12,6 @@ streams-after-requires c κs = (c .before .pre .waits .few, c .before .pre .free
 new-state-requires : tie.Need-new-state-requires
 new-state-requires c κs = (c .before .before .pre .handed, c .before .before .pre .fit)
 
-is-in-requires : tie.Need-is-in-requires
-is-in-requires c κs = search needs
-
 sum-up-requires : tie.Need-sum-up-requires
 sum-up-requires c κs = (omega arith, c .before .before .before .before .before .pre .waits .below)
 
@@ -22,9 +19,6 @@ returns : tie.Need-returns
 returns c =
     let a = c .before .before .before .before .before .before .args in
     c .sum-up .ensures ∙ settle-is (a .control) (a .queue) (a .first) (a .outcome) (a .summary) (c .before .before .before .before .streams-after .result) (c .before .before .before .new-state .result) (c .before .before .before .before .streams-after .ensures) (c .before .before .before .new-state .ensures) (sym (c .before .before .is-in .ensures) ∙ c .before .if1 .taken)
-
-sub-sum-up : tie.Need-sub-sum-up
-sub-sum-up c = search needs
 
 sum-up-requires-2 : tie.Need-sum-up-requires-2
 sum-up-requires-2 c κs = (omega (arith, c .before .before .before .before .before .before .pre .waits .short, c .before .before .before .before .before .before .pre .waits .some), c .before .before .before .before .before .before .pre .waits .below)
@@ -40,9 +34,9 @@ settle-spec =
     (tie.spec
     streams-after-requires
     new-state-requires
-    is-in-requires
+    (λ c κs. search needs)
     sum-up-requires
     returns
-    sub-sum-up
+    (λ c. search needs)
     sum-up-requires-2
     returns-2)

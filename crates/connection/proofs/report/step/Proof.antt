@@ -32,37 +32,19 @@ goes : (d : tie.Else2) {b : Bool} → w d .control .«in_flight» ≡ b
     ≡ reportOf (w d) (d .before .before .before .before .args .outcome)
 goes d p = ap (carried (w d)) (report-by (kept (w d)) (d .before .before .before .before .args .outcome) p) ∙ go-on (w d) _ (keeps d) (alive d)
 
-keeps-rules-requires : tie.Need-keeps-rules-requires
-keeps-rules-requires c κs = search needs
-
-answer-requires : tie.Need-answer-requires
-answer-requires c κs = search needs
-
 returns : tie.Need-returns
 returns c =
     let a = c .before .before .before .args in
     ap toldReport (c .answer .ensures)
     ∙ broken (joined (a .control) (a .queue)) (reportT (kept (joined (a .control) (a .queue))) (a .outcome)) (sym (c .before .before .keeps-rules .ensures) ∙ not-true _ (c .before .if1 .taken))
 
-is-in-requires : tie.Need-is-in-requires
-is-in-requires c κs = search needs
-
-answer-requires-2 : tie.Need-answer-requires-2
-answer-requires-2 c κs = search needs
-
 returns-2 : tie.Need-returns-2
 returns-2 c =
     let a = c .before .before .before .before .before .args in
     ap toldReport (c .answer2 .ensures) ∙ refuse-defunct (joined (a .control) (a .queue)) _ (sym (c .before .before .before .before .keeps-rules .ensures) ∙ not-false _ (c .before .before .before .if1 .left)) (sym (c .before .before .is-in .ensures) ∙ c .before .if2 .taken)
 
-answer-requires-3 : tie.Need-answer-requires-3
-answer-requires-3 c κs = search needs
-
 returns-3 : tie.Need-returns-3
 returns-3 c = ap toldReport (c .answer3 .ensures) ∙ goes (c .before .before .before) (not-true _ (c .before .if3 .taken))
-
-answer-requires-4 : tie.Need-answer-requires-4
-answer-requires-4 c κs = search needs
 
 returns-4 : tie.Need-returns-4
 returns-4 c =
@@ -88,15 +70,15 @@ pub step-spec : {M : Type 1} → statement M
 step-spec =
     tie.close
     (tie.spec
-    keeps-rules-requires
-    answer-requires
+    (λ c κs. search needs)
+    (λ c κs. search needs)
     returns
-    is-in-requires
-    answer-requires-2
+    (λ c κs. search needs)
+    (λ c κs. search needs)
     returns-2
-    answer-requires-3
+    (λ c κs. search needs)
     returns-3
-    answer-requires-4
+    (λ c κs. search needs)
     returns-4
     report-first-requires
     returns-5)

@@ -12,18 +12,6 @@ use Rattle.connection.proofs.report.streams_after.Tie as tie
 enum-told : tie.Need-enum-told
 enum-told c = search needs
 
-success-streams-requires : tie.Need-success-streams-requires
-success-streams-requires c κs = search needs
-
-enum-told-2 : tie.Need-enum-told-2
-enum-told-2 c = search needs
-
-enum-told-3 : tie.Need-enum-told-3
-enum-told-3 c = search needs
-
-none-open-requires : tie.Need-none-open-requires
-none-open-requires c κs = search needs
-
 returns : tie.Need-returns
 returns c =
     let a = c .before .before .before .args in
@@ -46,10 +34,10 @@ streams-after-spec =
     tie.close
     (tie.spec
     enum-told
-    success-streams-requires
-    enum-told-2
-    enum-told-3
-    none-open-requires
+    (λ c κs. search needs)
+    (λ c. search needs)
+    (λ c. search needs)
+    (λ c κs. search needs)
     returns
     returns-2
     returns-3)

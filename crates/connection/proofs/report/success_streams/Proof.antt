@@ -18,30 +18,12 @@ use Rattle.connection.proofs.Turns.{room-for-one}
 use Rattle.connection.proofs.report.success_streams.Statement.{statement}
 use Rattle.connection.proofs.report.success_streams.Tie as tie
 
-fetches-requires : tie.Need-fetches-requires
-fetches-requires c κs = search needs
-
-asked-for-requires : tie.Need-asked-for-requires
-asked-for-requires c κs = search needs
-
-number-of-requires : tie.Need-number-of-requires
-number-of-requires c κs = search needs
-
-one-less-requires : tie.Need-one-less-requires
-one-less-requires c κs = search needs
-
 returns : tie.Need-returns
 returns c =
     let a = c .before .before .before .before .before .args in
     c .one-less .ensures
     ∙ ap (λ (n : ℕ). laid (a .streams) (oneLess n (openOf (a .streams)))) (c .before .number-of .ensures ∙ ap (λ (x : Asked). named x (a .streams .next)) (c .before .before .asked-for .ensures))
     ∙ ap (laid (a .streams)) (streams-by (a .state) (a .request) (sym (c .before .before .before .before .fetches .ensures) ∙ c .before .before .before .if1 .taken) refl refl (openOf (a .streams)) refl)
-
-tag-requires : tie.Need-tag-requires
-tag-requires c κs = search needs
-
-in-transaction-requires : tie.Need-in-transaction-requires
-in-transaction-requires c κs = search needs
 
 one-more-requires : tie.Need-one-more-requires
 one-more-requires c κs =
@@ -67,9 +49,6 @@ returns-3 c =
     ∙ ap (laid (a .streams))
     (streams-by (a .state) (a .request) (sym (c .before .before .before .before .before .fetches .ensures) ∙ c .before .before .before .before .if1 .left) (eq-eqb _ _ (sym (c .before .before .before .tag .ensures) ∙ c .before .before .if2 .taken)) (sym (c .before .in-transaction .ensures) ∙ c .if3 .left) (openOf (a .streams)) (run-begins (a .request) (eq-eqb _ _ (sym (c .before .before .before .tag .ensures) ∙ c .before .before .if2 .taken))))
 
-begun-requires : tie.Need-begun-requires
-begun-requires c κs = search needs
-
 returns-4 : tie.Need-returns-4
 returns-4 c =
     let a = c .before .before .before .before .before .before .args in
@@ -89,16 +68,16 @@ pub success-streams-spec : {M : Type 1} → statement M
 success-streams-spec =
     tie.close
     (tie.spec
-    fetches-requires
-    asked-for-requires
-    number-of-requires
-    one-less-requires
+    (λ c κs. search needs)
+    (λ c κs. search needs)
+    (λ c κs. search needs)
+    (λ c κs. search needs)
     returns
-    tag-requires
-    in-transaction-requires
+    (λ c κs. search needs)
+    (λ c κs. search needs)
     one-more-requires
     returns-2
     returns-3
-    begun-requires
+    (λ c κs. search needs)
     returns-4
     returns-5)

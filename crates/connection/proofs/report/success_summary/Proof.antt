@@ -7,17 +7,8 @@ use Rattle.connection.proofs.Outcomes.{summary-by}
 use Rattle.connection.proofs.report.success_summary.Statement.{statement}
 use Rattle.connection.proofs.report.success_summary.Tie as tie
 
-fetches-requires : tie.Need-fetches-requires
-fetches-requires c κs = search needs
-
 returns : tie.Need-returns
 returns c = let a = c .before .before .args in summary-by (a .state) (a .request) (sym (c .before .fetches .ensures) ∙ c .if1 .taken) refl refl (a .next)
-
-tag-requires : tie.Need-tag-requires
-tag-requires c κs = search needs
-
-in-transaction-requires : tie.Need-in-transaction-requires
-in-transaction-requires c κs = search needs
 
 cast-t8 : tie.Need-cast-t8
 cast-t8 c = record { fits = omega (arith, c .before .before .before .before .before .before .pre) }
@@ -41,10 +32,10 @@ pub success-summary-spec : {M : Type 1} → statement M
 success-summary-spec =
     tie.close
     (tie.spec
-    fetches-requires
+    (λ c κs. search needs)
     returns
-    tag-requires
-    in-transaction-requires
+    (λ c κs. search needs)
+    (λ c κs. search needs)
     cast-t8
     returns-2
     returns-3

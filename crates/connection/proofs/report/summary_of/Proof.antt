@@ -9,15 +9,6 @@ use Rattle.connection.proofs.report.summary_of.Tie as tie
 enum-told : tie.Need-enum-told
 enum-told c = search needs
 
-success-summary-requires : tie.Need-success-summary-requires
-success-summary-requires c κs = search needs
-
-enum-told-2 : tie.Need-enum-told-2
-enum-told-2 c = search needs
-
-enum-told-3 : tie.Need-enum-told-3
-enum-told-3 c = search needs
-
 returns : tie.Need-returns
 returns c = let a = c .before .before .before .args in c .success-summary .ensures ∙ ap (λ (o : Outcome). summaryOf o (a .state) (a .next) (a .request)) (sym (c .before .enum-told .given .1))
 
@@ -32,9 +23,9 @@ summary-of-spec =
     tie.close
     (tie.spec
     enum-told
-    success-summary-requires
-    enum-told-2
-    enum-told-3
+    (λ c κs. search needs)
+    (λ c. search needs)
+    (λ c. search needs)
     returns
     returns-2
     returns-3)

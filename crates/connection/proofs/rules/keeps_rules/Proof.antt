@@ -34,20 +34,11 @@ returns c = let a = c .before .before .before .args in sym (too-many (joined (a 
 returns-2 : tie.Need-returns-2
 returns-2 c = let a = c .before .before .before .before .before .args in sym (too-open (joined (a .control) (a .queue)) (c .if2 .taken))
 
-has-wrong-requires : tie.Need-has-wrong-requires
-has-wrong-requires c κs = search needs
-
 returns-3 : tie.Need-returns-3
 returns-3 c = counted (c .before .before) (sym (c .before .has-wrong .ensures) ∙ c .if3 .taken) refl refl
 
-is-valid-requires : tie.Need-is-valid-requires
-is-valid-requires c κs = search needs
-
 returns-4 : tie.Need-returns-4
 returns-4 c = counted (c .before .before .before .before) (sym (c .before .before .before .has-wrong .ensures) ∙ c .before .before .if3 .left) (sym (c .before .is-valid .ensures) ∙ not-true _ (c .if4 .taken)) refl
-
-state-holds-requires : tie.Need-state-holds-requires
-state-holds-requires c κs = search needs
 
 returns-5 : tie.Need-returns-5
 returns-5 c = counted (c .before .before .before .before .before) (sym (c .before .before .before .before .has-wrong .ensures) ∙ c .before .before .before .if3 .left) (sym (c .before .before .is-valid .ensures) ∙ not-false _ (c .before .if4 .left)) (sym (c .state-holds .ensures))
@@ -58,9 +49,9 @@ keeps-rules-spec =
     (tie.spec
     returns
     returns-2
-    has-wrong-requires
+    (λ c κs. search needs)
     returns-3
-    is-valid-requires
+    (λ c κs. search needs)
     returns-4
-    state-holds-requires
+    (λ c κs. search needs)
     returns-5)

@@ -7,22 +7,10 @@ use Rattle.connection.proofs.Standing.{may-in, may-out}
 use Rattle.connection.proofs.rules.may_be_in_flight.Statement.{statement}
 use Rattle.connection.proofs.rules.may_be_in_flight.Tie as tie
 
-is-in-requires : tie.Need-is-in-requires
-is-in-requires c κs = search needs
-
-is-work-requires : tie.Need-is-work-requires
-is-work-requires c κs = search needs
-
 returns : tie.Need-returns
 returns c =
     let a = c .before .before .before .args in
     c .is-work .ensures ∙ sym (may-in (a .state) (openOf (a .streams)) (a .request) (sym (c .before .before .is-in .ensures) ∙ c .before .if1 .taken))
-
-turn-of-requires : tie.Need-turn-of-requires
-turn-of-requires c κs = search needs
-
-is-handed-requires : tie.Need-is-handed-requires
-is-handed-requires c κs = search needs
 
 returns-2 : tie.Need-returns-2
 returns-2 c =
@@ -33,9 +21,9 @@ pub may-be-in-flight-spec : {M : Type 1} → statement M
 may-be-in-flight-spec =
     tie.close
     (tie.spec
-    is-in-requires
-    is-work-requires
+    (λ c κs. search needs)
+    (λ c κs. search needs)
     returns
-    turn-of-requires
-    is-handed-requires
+    (λ c κs. search needs)
+    (λ c κs. search needs)
     returns-2)

@@ -11,24 +11,15 @@ use Rattle.connection.proofs.Waiting.{front-length}
 use Rattle.connection.proofs.rules.state_holds.Statement.{statement}
 use Rattle.connection.proofs.rules.state_holds.Tie as tie
 
-open-holds-requires : tie.Need-open-holds-requires
-open-holds-requires c κs = search needs
-
 returns : tie.Need-returns
 returns c =
     let a = c .before .before .before .args in
     sym (state-by (kept (joined (a .control) (a .queue))) (sym (c .before .open-holds .ensures) ∙ not-true _ (c .if1 .taken)) refl refl refl)
 
-reset-holds-requires : tie.Need-reset-holds-requires
-reset-holds-requires c κs = search needs
-
 returns-2 : tie.Need-returns-2
 returns-2 c =
     let a = c .before .before .before .before .before .args in
     sym (state-by (kept (joined (a .control) (a .queue))) (sym (c .before .before .before .open-holds .ensures) ∙ not-false _ (c .before .before .if1 .left)) (sym (c .before .reset-holds .ensures) ∙ not-true _ (c .if2 .taken)) refl refl)
-
-flight-holds-requires : tie.Need-flight-holds-requires
-flight-holds-requires c κs = search needs
 
 returns-3 : tie.Need-returns-3
 returns-3 c =
@@ -36,9 +27,6 @@ returns-3 c =
     sym
     (state-by (kept (joined (a .control) (a .queue))) (sym (c .before .before .before .before .before .open-holds .ensures) ∙ not-false _ (c .before .before .before .before .if1 .left)) (sym (c .before .before .before .reset-holds .ensures) ∙ not-false _ (c .before .before .if2 .left))
     (sym (c .before .flight-holds .ensures) ∙ not-true _ (c .if3 .taken)) refl)
-
-counts-hold-requires : tie.Need-counts-hold-requires
-counts-hold-requires c κs = search needs
 
 returns-4 : tie.Need-returns-4
 returns-4 c =
@@ -55,11 +43,11 @@ pub state-holds-spec : {M : Type 1} → statement M
 state-holds-spec =
     tie.close
     (tie.spec
-    open-holds-requires
+    (λ c κs. search needs)
     returns
-    reset-holds-requires
+    (λ c κs. search needs)
     returns-2
-    flight-holds-requires
+    (λ c κs. search needs)
     returns-3
-    counts-hold-requires
+    (λ c κs. search needs)
     returns-4)

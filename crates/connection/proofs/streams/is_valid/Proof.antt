@@ -24,12 +24,6 @@ returns c =
 loop-holds : tie.Need-loop-holds Inv-loop μ-loop
 loop-holds c = refl
 
-mul-if2 : tie.Need-mul-if2 Inv-loop μ-loop
-mul-if2 c = search needs
-
-array-read-if2 : tie.Need-array-read-if2 Inv-loop μ-loop
-array-read-if2 c = search needs
-
 returns-2 : tie.Need-returns-2 Inv-loop μ-loop
 returns-2 c =
     let s = c .before .before .before .before .before in
@@ -37,30 +31,12 @@ returns-2 c =
     let long = numbers v _ (s .good .0) in
     sym (next-right v long (s .pre) (c .before .before .before .if1 .left) ∙ c .before .before .loop .inv ∙ too-high (v .numbers) (v .count) long (s .pre) (v .next) (c .before .before .loop .i) (c .before .loop-test .taken) (c .if2 .taken))
 
-add-is-open : tie.Need-add-is-open Inv-loop μ-loop
-add-is-open c = search needs
-
-mul-is-open : tie.Need-mul-is-open Inv-loop μ-loop
-mul-is-open c = search needs
-
-array-read-is-open : tie.Need-array-read-is-open Inv-loop μ-loop
-array-read-is-open c = search needs
-
-is-open-requires : tie.Need-is-open-requires Inv-loop μ-loop
-is-open-requires c κs = search needs
-
 returns-3 : tie.Need-returns-3 Inv-loop μ-loop
 returns-3 c =
     let s = c .before .before .before .before .before .before .before in
     let v = s .args .streams in
     let long = numbers v _ (s .good .0) in
     sym (next-right v long (s .pre) (c .before .before .before .before .before .if1 .left) ∙ c .before .before .before .before .loop .inv ∙ again (v .numbers) (v .count) long (s .pre) (v .next) (c .before .before .before .before .loop .i) (c .before .before .before .loop-test .taken) (sym (c .before .is-open .ensures) ∙ c .if3 .taken))
-
-add-i : tie.Need-add-i Inv-loop μ-loop
-add-i c = search needs
-
-loop-less : tie.Need-loop-less Inv-loop μ-loop
-loop-less c = search needs
 
 loop-again : tie.Need-loop-again Inv-loop μ-loop
 loop-again c =
@@ -83,15 +59,15 @@ is-valid-spec =
     μ-loop
     returns
     loop-holds
-    mul-if2
-    array-read-if2
+    (λ c. search needs)
+    (λ c. search needs)
     returns-2
-    add-is-open
-    mul-is-open
-    array-read-is-open
-    is-open-requires
+    (λ c. search needs)
+    (λ c. search needs)
+    (λ c. search needs)
+    (λ c κs. search needs)
     returns-3
-    add-i
-    loop-less
+    (λ c. search needs)
+    (λ c. search needs)
     loop-again
     returns-4)

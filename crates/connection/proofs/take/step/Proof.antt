@@ -35,36 +35,18 @@ idling d =
     let s = d .before .before .before .before in
     idles (w d .control) (w d .queue) (fits (w d .control) (w d .queue) (keeps d) (slots (w d .queue) _ (s .good .1 .0)) (streams (w d .control) _ (s .good .0)))
 
-keeps-rules-requires : tie.Need-keeps-rules-requires
-keeps-rules-requires c κs = search needs
-
-answer-requires : tie.Need-answer-requires
-answer-requires c κs = search needs
-
 returns : tie.Need-returns
 returns c =
     let a = c .before .before .before .args in
     ap toldTake (c .answer .ensures) ∙ broken (joined (a .control) (a .queue)) (takeT (kept (joined (a .control) (a .queue)))) (sym (c .before .before .keeps-rules .ensures) ∙ not-true _ (c .before .if1 .taken))
-
-is-in-requires : tie.Need-is-in-requires
-is-in-requires c κs = search needs
-
-answer-requires-2 : tie.Need-answer-requires-2
-answer-requires-2 c κs = search needs
 
 returns-2 : tie.Need-returns-2
 returns-2 c =
     let a = c .before .before .before .before .before .args in
     ap toldTake (c .answer2 .ensures) ∙ refuse-defunct (joined (a .control) (a .queue)) _ (sym (c .before .before .before .before .keeps-rules .ensures) ∙ not-false _ (c .before .before .before .if1 .left)) (sym (c .before .before .is-in .ensures) ∙ c .before .if2 .taken)
 
-answer-requires-3 : tie.Need-answer-requires-3
-answer-requires-3 c κs = search needs
-
 returns-3 : tie.Need-returns-3
 returns-3 c = let d = c .before .before in ap toldTake (c .answer3 .ensures) ∙ idling d ∙ goes d (c .before .if3 .taken)
-
-answer-requires-4 : tie.Need-answer-requires-4
-answer-requires-4 c κs = search needs
 
 returns-4 : tie.Need-returns-4
 returns-4 c =
@@ -85,15 +67,15 @@ pub step-spec : {M : Type 1} → statement M
 step-spec =
     tie.close
     (tie.spec
-    keeps-rules-requires
-    answer-requires
+    (λ c κs. search needs)
+    (λ c κs. search needs)
     returns
-    is-in-requires
-    answer-requires-2
+    (λ c κs. search needs)
+    (λ c κs. search needs)
     returns-2
-    answer-requires-3
+    (λ c κs. search needs)
     returns-3
-    answer-requires-4
+    (λ c κs. search needs)
     returns-4
     take-first-requires
     returns-5)

@@ -61,67 +61,13 @@ resets d b e =
     ap (λ (b : Bool). gives d (answer (kept (joined (k d) (q d))) (cond b Interrupted Ready) (noneOpen (openOf (k d .streams))) (behind (q d) (k d .waiting - 1)) S.Success))
     (sym (ap (any (is RESET)) (sym (front-rest (q d) (k d .waiting) (fit s .places) (s .pre .some) (s .pre .short))) ∙ e))
 
-first-requires : tie.Need-first-requires
-first-requires c κs = search needs
-
-turn-of-requires : tie.Need-turn-of-requires
-turn-of-requires c κs = search needs
-
 enum-told : tie.Need-enum-told
 enum-told c = search needs
-
-defunct-requires : tie.Need-defunct-requires
-defunct-requires c κs = search needs
-
-answer-requires : tie.Need-answer-requires
-answer-requires c κs = search needs
-
-enum-told-2 : tie.Need-enum-told-2
-enum-told-2 c = search needs
-
-has-reset-requires : tie.Need-has-reset-requires
-has-reset-requires c κs = search needs
-
-clear-requires : tie.Need-clear-requires
-clear-requires c κs = search needs
 
 returns : tie.Need-returns
 returns c =
     let d = c .before .before .before .before .before in
     ap toldTake (c .clear .ensures) ∙ clears d Interrupted S.Success ∙ resets d true (sym (c .before .before .has-reset .ensures) ∙ c .before .if1 .taken) ∙ turns d U.Resets (c .before .before .before .enum-told2 .given .1)
-
-clear-requires-2 : tie.Need-clear-requires-2
-clear-requires-2 c κs = search needs
-
-enum-told-3 : tie.Need-enum-told-3
-enum-told-3 c = search needs
-
-sum-up-requires : tie.Need-sum-up-requires
-sum-up-requires c κs = search needs
-
-enum-told-4 : tie.Need-enum-told-4
-enum-told-4 c = search needs
-
-add-t17 : tie.Need-add-t17
-add-t17 c = search needs
-
-handed-requires : tie.Need-handed-requires
-handed-requires c κs = search needs
-
-answer-requires-2 : tie.Need-answer-requires-2
-answer-requires-2 c κs = search needs
-
-enum-told-5 : tie.Need-enum-told-5
-enum-told-5 c = search needs
-
-fail-requires : tie.Need-fail-requires
-fail-requires c κs = search needs
-
-enum-told-6 : tie.Need-enum-told-6
-enum-told-6 c = search needs
-
-fail-requires-2 : tie.Need-fail-requires-2
-fail-requires-2 c κs = search needs
 
 returns-2 : tie.Need-returns-2
 returns-2 c =
@@ -156,26 +102,26 @@ pub take-first-spec : {M : Type 1} → statement M
 take-first-spec =
     tie.close
     (tie.spec
-    first-requires
-    turn-of-requires
+    (λ c κs. search needs)
+    (λ c κs. search needs)
     enum-told
-    defunct-requires
-    answer-requires
-    enum-told-2
-    has-reset-requires
-    clear-requires
+    (λ c κs. search needs)
+    (λ c κs. search needs)
+    (λ c. search needs)
+    (λ c κs. search needs)
+    (λ c κs. search needs)
     returns
-    clear-requires-2
-    enum-told-3
-    sum-up-requires
-    enum-told-4
-    add-t17
-    handed-requires
-    answer-requires-2
-    enum-told-5
-    fail-requires
-    enum-told-6
-    fail-requires-2
+    (λ c κs. search needs)
+    (λ c. search needs)
+    (λ c κs. search needs)
+    (λ c. search needs)
+    (λ c. search needs)
+    (λ c κs. search needs)
+    (λ c κs. search needs)
+    (λ c. search needs)
+    (λ c κs. search needs)
+    (λ c. search needs)
+    (λ c κs. search needs)
     returns-2
     returns-3
     returns-4

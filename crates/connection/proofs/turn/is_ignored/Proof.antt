@@ -17,48 +17,6 @@ by-kind s r k b e f = f ∙ ignored-is s k ∙ ap (ignores s) (sym e)
 enum-told : tie.Need-enum-told
 enum-told c = search needs
 
-enum-told-2 : tie.Need-enum-told-2
-enum-told-2 c = search needs
-
-enum-told-3 : tie.Need-enum-told-3
-enum-told-3 c = search needs
-
-enum-told-4 : tie.Need-enum-told-4
-enum-told-4 c = search needs
-
-is-stopped-requires : tie.Need-is-stopped-requires
-is-stopped-requires c κs = search needs
-
-enum-told-5 : tie.Need-enum-told-5
-enum-told-5 c = search needs
-
-is-in-requires : tie.Need-is-in-requires
-is-in-requires c κs = search needs
-
-enum-told-6 : tie.Need-enum-told-6
-enum-told-6 c = search needs
-
-is-in-requires-2 : tie.Need-is-in-requires-2
-is-in-requires-2 c κs = search needs
-
-enum-told-7 : tie.Need-enum-told-7
-enum-told-7 c = search needs
-
-is-in-requires-3 : tie.Need-is-in-requires-3
-is-in-requires-3 c κs = search needs
-
-enum-told-8 : tie.Need-enum-told-8
-enum-told-8 c = search needs
-
-is-stopped-requires-2 : tie.Need-is-stopped-requires-2
-is-stopped-requires-2 c κs = search needs
-
-enum-told-9 : tie.Need-enum-told-9
-enum-told-9 c = search needs
-
-is-stopped-requires-3 : tie.Need-is-stopped-requires-3
-is-stopped-requires-3 c κs = search needs
-
 returns : tie.Need-returns
 returns c = let a = c .before .before .args in by-kind (a .state) (a .request) HELLO _ (ap kindOf (c .enum-told .given .1)) refl
 
@@ -91,20 +49,20 @@ is-ignored-spec =
     tie.close
     (tie.spec
     enum-told
-    enum-told-2
-    enum-told-3
-    enum-told-4
-    is-stopped-requires
-    enum-told-5
-    is-in-requires
-    enum-told-6
-    is-in-requires-2
-    enum-told-7
-    is-in-requires-3
-    enum-told-8
-    is-stopped-requires-2
-    enum-told-9
-    is-stopped-requires-3
+    (λ c. search needs)
+    (λ c. search needs)
+    (λ c. search needs)
+    (λ c κs. search needs)
+    (λ c. search needs)
+    (λ c κs. search needs)
+    (λ c. search needs)
+    (λ c κs. search needs)
+    (λ c. search needs)
+    (λ c κs. search needs)
+    (λ c. search needs)
+    (λ c κs. search needs)
+    (λ c. search needs)
+    (λ c κs. search needs)
     returns
     returns-2
     returns-3

@@ -11,26 +11,11 @@ use Rattle.connection.proofs.Turns.{names-by}
 use Rattle.connection.proofs.turn.names_open.Statement.{statement}
 use Rattle.connection.proofs.turn.names_open.Tie as tie
 
-asked-for-requires : tie.Need-asked-for-requires
-asked-for-requires c κs = search needs
-
-is-in-requires : tie.Need-is-in-requires
-is-in-requires c κs = search needs
-
-is-latest-requires : tie.Need-is-latest-requires
-is-latest-requires c κs = search needs
-
 returns : tie.Need-returns
 returns c =
     let a = c .before .before .before .before .args in
     c .is-latest .ensures ∙ ap isLatest (c .before .before .before .asked-for .ensures)
     ∙ sym (names-by (a .state) (openOf (a .streams)) (a .request) (sym (c .before .before .is-in .ensures) ∙ c .before .if1 .taken))
-
-number-of-requires : tie.Need-number-of-requires
-number-of-requires c κs = search needs
-
-is-open-requires : tie.Need-is-open-requires
-is-open-requires c κs = search needs
 
 returns-2 : tie.Need-returns-2
 returns-2 c =
@@ -43,10 +28,10 @@ pub names-open-spec : {M : Type 1} → statement M
 names-open-spec =
     tie.close
     (tie.spec
-    asked-for-requires
-    is-in-requires
-    is-latest-requires
+    (λ c κs. search needs)
+    (λ c κs. search needs)
+    (λ c κs. search needs)
     returns
-    number-of-requires
-    is-open-requires
+    (λ c κs. search needs)
+    (λ c κs. search needs)
     returns-2)

@@ -32,25 +32,16 @@ over d p q u v =
     (turn-by (s d) (o d) (r d) (ne-eqb _ _ (λ x. e .if1 .left (e .before .tag .ensures ∙ x))) (sym (d .before .before .before .is-ignored .ensures) ∙ d .before .before .if2 .left)
     (sym (d .before .hands-over .ensures) ∙ not-false _ (d .if3 .left)) p q u v)
 
-tag-requires : tie.Need-tag-requires
-tag-requires c κs = search needs
-
 returns : tie.Need-returns
 returns c =
     let a = c .before .before .args in
     sym (turn-by (a .state) (openOf (a .streams)) (a .request) (eq-eqb _ _ (sym (c .before .tag .ensures) ∙ c .if1 .taken)) refl refl refl refl refl refl)
-
-is-ignored-requires : tie.Need-is-ignored-requires
-is-ignored-requires c κs = search needs
 
 returns-2 : tie.Need-returns-2
 returns-2 c =
     let a = c .before .before .before .before .args in
     sym
     (turn-by (a .state) (openOf (a .streams)) (a .request) (ne-eqb _ _ (λ x. c .before .before .if1 .left (c .before .before .before .tag .ensures ∙ x))) (sym (c .before .is-ignored .ensures) ∙ c .if2 .taken) refl refl refl refl refl)
-
-hands-over-requires : tie.Need-hands-over-requires
-hands-over-requires c κs = search needs
 
 returns-3 : tie.Need-returns-3
 returns-3 c =
@@ -59,9 +50,6 @@ returns-3 c =
     (turn-by (a .state) (openOf (a .streams)) (a .request) (ne-eqb _ _ (λ x. c .before .before .before .before .if1 .left (c .before .before .before .before .before .tag .ensures ∙ x))) (sym (c .before .before .before .is-ignored .ensures) ∙ c .before .before .if2 .left)
     (sym (c .before .hands-over .ensures) ∙ not-true _ (c .if3 .taken)) refl refl refl refl)
 
-is-full-requires : tie.Need-is-full-requires
-is-full-requires c κs = search needs
-
 returns-4 : tie.Need-returns-4
 returns-4 c = over (c .before .before .before) (eq-eqb _ _ (sym (c .before .before .before .before .before .before .before .before .tag .ensures) ∙ c .before .before .if4 .taken)) (sym (c .before .is-full .ensures) ∙ c .if5 .taken) refl refl
 
@@ -69,12 +57,6 @@ returns-5 : tie.Need-returns-5
 returns-5 c =
     let run = eq-eqb _ _ (sym (c .before .before .before .before .before .before .before .before .tag .ensures) ∙ c .before .before .if4 .taken) in
     over (c .before .before .before) run (sym (c .before .is-full .ensures) ∙ c .if5 .left) (run-fetches (c .before .before .before .before .before .before .before .before .before .args .request) run) refl
-
-fetches-requires : tie.Need-fetches-requires
-fetches-requires c κs = search needs
-
-names-open-requires : tie.Need-names-open-requires
-names-open-requires c κs = search needs
 
 returns-6 : tie.Need-returns-6
 returns-6 c = over (c .before .before .before .before .before) (ne-eqb _ _ (λ x. c .before .before .before .before .if4 .left (c .before .before .before .before .before .before .before .before .before .before .tag .ensures ∙ x))) refl (sym (c .before .before .before .fetches .ensures) ∙ c .before .before .if6 .taken) (sym (c .before .names-open .ensures) ∙ c .if7 .taken)
@@ -89,17 +71,17 @@ pub turn-of-spec : {M : Type 1} → statement M
 turn-of-spec =
     tie.close
     (tie.spec
-    tag-requires
+    (λ c κs. search needs)
     returns
-    is-ignored-requires
+    (λ c κs. search needs)
     returns-2
-    hands-over-requires
+    (λ c κs. search needs)
     returns-3
-    is-full-requires
+    (λ c κs. search needs)
     returns-4
     returns-5
-    fetches-requires
-    names-open-requires
+    (λ c κs. search needs)
+    (λ c κs. search needs)
     returns-6
     returns-7
     returns-8)

@@ -57,9 +57,6 @@ add-copy c =
     let w = k .5 (b .args .buffer .now) (l .1) (l .0) (b .pre) in
     omega (arith, message-header w (b .pre), b .good)
 
-copy-requires : tie.Need-copy-requires Inv-loop2 μ-loop2 Inv-loop μ-loop
-copy-requires c κs = search needs
-
 add-to : tie.Need-add-to Inv-loop2 μ-loop2 Inv-loop μ-loop
 add-to c =
     let b = c .before .before .before .before .before .before .before .before .before .before in
@@ -139,7 +136,7 @@ copy-message-spec =
     returns
     loop2-holds
     add-copy
-    copy-requires
+    (λ c κs. search needs)
     add-to
     add-at
     add-at-2

@@ -1,17 +1,11 @@
 -- `reader::read_frame` meets its contract: it copies exactly where the scan found a message. Assumes nothing.
-use mathlib.Core.Path.{_≡_, refl, sym, ap, _∙_}
+use mathlib.Core.Path.{refl, sym, ap, _∙_}
 use borrow.Author.Needs.{needs}
 use lib.ListN.{length}
 use Rattle.framing.specs.Reading.{frameOf, told}
 use Rattle.framing.proofs.Telling.{told-message, told-keep-alive, told-refused}
 use Rattle.framing.proofs.reader.read_frame.Statement.{statement}
 use Rattle.framing.proofs.reader.read_frame.Tie as tie
-
-allows-keep-alive-requires : tie.Need-allows-keep-alive-requires
-allows-keep-alive-requires c κs = search needs
-
-scan-requires : tie.Need-scan-requires
-scan-requires c κs = search needs
 
 enum-told : tie.Need-enum-told
 enum-told c = search needs
@@ -22,15 +16,6 @@ copy-message-requires c κs =
     let a = f .before .before .before .before .args in
     told-message (frameOf (f .before .allows-keep-alive .result) (length (a .buffer .now)) (a .input .now))
     (ap told (sym (c .before .enum-told .given .1)) ∙ f .scan .ensures)
-
-enum-told-2 : tie.Need-enum-told-2
-enum-told-2 c = search needs
-
-enum-told-3 : tie.Need-enum-told-3
-enum-told-3 c = search needs
-
-same-length : tie.Need-same-length
-same-length c = search needs
 
 returns : tie.Need-returns
 returns c =
@@ -64,13 +49,13 @@ pub read-frame-spec : {M : Type 1} → statement M
 read-frame-spec =
     tie.close
     (tie.spec
-    allows-keep-alive-requires
-    scan-requires
+    (λ c κs. search needs)
+    (λ c κs. search needs)
     enum-told
     copy-message-requires
-    enum-told-2
-    enum-told-3
-    same-length
+    (λ c. search needs)
+    (λ c. search needs)
+    (λ c. search needs)
     returns
     returns-2
     returns-3)

@@ -31,17 +31,8 @@ longer i n = omega arith
 loop-holds : tie.Need-loop-holds Inv-loop2 μ-loop2 Inv-loop μ-loop
 loop-holds c = record { inside = omega arith; small = omega arith; thin = omega arith; came = came-none _ _ _ }
 
-sub-if1 : tie.Need-sub-if1 Inv-loop2 μ-loop2 Inv-loop μ-loop
-sub-if1 c = omega arith
-
 returns : tie.Need-returns Inv-loop2 μ-loop2 Inv-loop μ-loop
 returns c = sym (ap telling (at-few (c .before .loop .inv .came) (c .if1 .taken)))
-
-size-at-requires : tie.Need-size-at-requires Inv-loop2 μ-loop2 Inv-loop μ-loop
-size-at-requires c κs = omega arith
-
-add-t12 : tie.Need-add-t12 Inv-loop2 μ-loop2 Inv-loop μ-loop
-add-t12 c = omega arith
 
 returns-2 : tie.Need-returns-2 Inv-loop2 μ-loop2 Inv-loop μ-loop
 returns-2 c =
@@ -80,52 +71,25 @@ loop2-holds c =
       came = l .came;
     }
 
-add-if5 : tie.Need-add-if5 Inv-loop2 μ-loop2 Inv-loop μ-loop
-add-if5 c = omega arith
-
 returns-5 : tie.Need-returns-5 Inv-loop2 μ-loop2 Inv-loop μ-loop
 returns-5 c =
     let l = c .before .loop2 .inv in
     sym (ap telling (at-long (l .came) (l .fits) (l .size) (l .some) (c .if5 .taken)))
-
-add-if6 : tie.Need-add-if6 Inv-loop2 μ-loop2 Inv-loop μ-loop
-add-if6 c = omega arith
 
 returns-6 : tie.Need-returns-6 Inv-loop2 μ-loop2 Inv-loop μ-loop
 returns-6 c =
     let l = c .before .before .loop2 .inv in
     sym (ap telling (at-room (l .came) (l .fits) (l .size) (l .some) (c .before .if5 .left) (c .if6 .taken)))
 
-sub-if7 : tie.Need-sub-if7 Inv-loop2 μ-loop2 Inv-loop μ-loop
-sub-if7 c = omega arith
-
-sub-if7-2 : tie.Need-sub-if7-2 Inv-loop2 μ-loop2 Inv-loop μ-loop
-sub-if7-2 c = omega arith
-
 returns-7 : tie.Need-returns-7 Inv-loop2 μ-loop2 Inv-loop μ-loop
 returns-7 c =
     let l = c .before .before .before .loop2 .inv in
     sym (ap telling (at-cut (l .came) (l .fits) (l .size) (l .some) (c .before .before .if5 .left) (c .before .if6 .left) (c .if7 .taken)))
 
-add-sum : tie.Need-add-sum Inv-loop2 μ-loop2 Inv-loop μ-loop
-add-sum c = omega arith
-
-add-at : tie.Need-add-at Inv-loop2 μ-loop2 Inv-loop μ-loop
-add-at c = omega arith
-
-add-at-2 : tie.Need-add-at-2 Inv-loop2 μ-loop2 Inv-loop μ-loop
-add-at-2 c = omega arith
-
-sub-if8 : tie.Need-sub-if8 Inv-loop2 μ-loop2 Inv-loop μ-loop
-sub-if8 c = omega arith
-
 returns-8 : tie.Need-returns-8 Inv-loop2 μ-loop2 Inv-loop μ-loop
 returns-8 c =
     let r = c .before .before .before .before .loop2 .inv in
     sym (ap telling (at-few (run-came r (c .before .before .before .if5 .left) (c .before .before .if6 .left) (c .before .if7 .left)) (c .if8 .taken)))
-
-size-at-requires-2 : tie.Need-size-at-requires-2 Inv-loop2 μ-loop2 Inv-loop μ-loop
-size-at-requires-2 c κs = omega arith
 
 loop-less : tie.Need-loop-less Inv-loop2 μ-loop2 Inv-loop μ-loop
 loop-less c =
@@ -154,27 +118,27 @@ scan-spec =
     Inv-loop
     μ-loop
     loop-holds
-    sub-if1
+    (λ c. omega arith)
     returns
-    size-at-requires
-    add-t12
+    (λ c κs. omega arith)
+    (λ c. omega arith)
     returns-2
     returns-3
     returns-4
     loop2-holds
-    add-if5
+    (λ c. omega arith)
     returns-5
-    add-if6
+    (λ c. omega arith)
     returns-6
-    sub-if7
-    sub-if7-2
+    (λ c. omega arith)
+    (λ c. omega arith)
     returns-7
-    add-sum
-    add-at
-    add-at-2
-    sub-if8
+    (λ c. omega arith)
+    (λ c. omega arith)
+    (λ c. omega arith)
+    (λ c. omega arith)
     returns-8
-    size-at-requires-2
+    (λ c κs. omega arith)
     loop-less
     loop-again
     loop2-less

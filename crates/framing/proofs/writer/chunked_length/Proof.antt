@@ -1,5 +1,5 @@
 -- `writer::chunked_length` meets its contract. Assumes nothing.
-use mathlib.Core.Path.{_≡_, refl, sym, _∙_}
+use mathlib.Core.Path.{refl, sym, _∙_}
 use Prim.Native.Nat.{_%_}
 use native.Mathlib.Nat.{div-le-self}
 use native.Mathlib.Omega.{arith}
@@ -9,9 +9,6 @@ use Rattle.framing.proofs.Chunking.{length-chunked, closing-some}
 use Rattle.framing.proofs.writer.chunked_length.Statement.{statement}
 use Rattle.framing.proofs.writer.chunked_length.Tie as tie
 
-div-whole : tie.Need-div-whole
-div-whole c = search needs
-
 mul-whole : tie.Need-mul-whole
 mul-whole c = omega (arith, div-le-self (length (c .args .message .now)) (c .args .chunk-size))
 
@@ -20,9 +17,6 @@ add-whole c = omega (arith, div-le-self (length (c .args .message .now)) (c .arg
 
 add-whole-2 : tie.Need-add-whole-2
 add-whole-2 c = omega (arith, div-le-self (length (c .args .message .now)) (c .args .chunk-size))
-
-rem-if1 : tie.Need-rem-if1
-rem-if1 c = search needs
 
 add-result : tie.Need-add-result
 add-result c = omega (arith, div-le-self (length (c .before .args .message .now)) (c .before .args .chunk-size))
@@ -41,11 +35,11 @@ pub chunked-length-spec : {M : Type 1} → statement M
 chunked-length-spec =
     tie.close
     (tie.spec
-    div-whole
+    (λ c. search needs)
     mul-whole
     add-whole
     add-whole-2
-    rem-if1
+    (λ c. search needs)
     add-result
     returns
     returns-2)

@@ -7,26 +7,8 @@ use Rattle.framing.proofs.Chunking.{put-chunk}
 use Rattle.framing.proofs.writer.put_chunk.Statement.{statement}
 use Rattle.framing.proofs.writer.put_chunk.Tie as tie
 
-cast-out : tie.Need-cast-out
-cast-out c = search needs
-
-slice-write-out : tie.Need-slice-write-out
-slice-write-out c = search needs
-
-cast-out-2 : tie.Need-cast-out-2
-cast-out-2 c = search needs
-
-add-out : tie.Need-add-out
-add-out c = search needs
-
 slice-write-out-2 : tie.Need-slice-write-out-2
 slice-write-out-2 c = simp length-set (omega arith)
-
-add-copy : tie.Need-add-copy
-add-copy c = search needs
-
-copy-requires : tie.Need-copy-requires
-copy-requires c κs = search needs
 
 same-length : tie.Need-same-length
 same-length c = c .before .before .copy .kept .1 .1 .1 .0 ∙ simp length-set
@@ -42,12 +24,12 @@ pub put-chunk-spec : {M : Type 1} → statement M
 put-chunk-spec =
     tie.close
     (tie.spec
-    cast-out
-    slice-write-out
-    cast-out-2
-    add-out
+    (λ c. search needs)
+    (λ c. search needs)
+    (λ c. search needs)
+    (λ c. search needs)
     slice-write-out-2
-    add-copy
-    copy-requires
+    (λ c. search needs)
+    (λ c κs. search needs)
     same-length
     returns)

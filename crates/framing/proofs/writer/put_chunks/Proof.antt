@@ -18,17 +18,11 @@ abbrev μ-loop : tie.MeasureT-loop
 loop-holds : tie.Need-loop-holds Inv-loop μ-loop
 loop-holds c = (refl, writing-none _ _ _ (c .before .before .pre .1))
 
-sub-loop : tie.Need-sub-loop Inv-loop μ-loop
-sub-loop c = omega arith
-
 put-chunk-requires : tie.Need-put-chunk-requires Inv-loop μ-loop
 put-chunk-requires c κs =
     let b = c .before .before .before .before .before in
     let l = c .before .before .loop .inv in
     (b .pre .0 .1, omega arith, omega (arith, whole-fits (l .1) (b .pre .0 .0) (c .before .loop-test .taken), l .0))
-
-add-start : tie.Need-add-start Inv-loop μ-loop
-add-start c = omega arith
 
 add-to : tie.Need-add-to Inv-loop μ-loop
 add-to c =
@@ -55,9 +49,6 @@ loop-again c =
       c .before .before .put-chunk .kept .1 .1 .1 .0 ∙ l .0,
       rw (c .before .before .put-chunk .ensures) (whole-next (l .1) (b .pre .0 .0) (c .before .before .before .before .loop-test .taken)),
     )
-
-sub-rest : tie.Need-sub-rest Inv-loop μ-loop
-sub-rest c = omega arith
 
 put-end-requires : tie.Need-put-end-requires Inv-loop μ-loop
 put-end-requires c κs =
@@ -118,14 +109,14 @@ put-chunks-spec =
     Inv-loop
     μ-loop
     loop-holds
-    sub-loop
+    (λ c. omega arith)
     put-chunk-requires
-    add-start
+    (λ c. omega arith)
     add-to
     add-to-2
     loop-less
     loop-again
-    sub-rest
+    (λ c. omega arith)
     put-end-requires
     same-length
     returns

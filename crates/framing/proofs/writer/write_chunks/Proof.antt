@@ -1,10 +1,10 @@
 -- `writer::write_chunks` meets its contract: each test is one of `writing`'s, in its order. Assumes nothing.
-use mathlib.Core.Path.{_≡_, refl, ap, _∙_}
+use mathlib.Core.Path.{refl, ap}
 use Prim.Native.Nat.{ℕ}
 use native.Mathlib.Omega.{arith}
 use borrow.Author.Needs.{needs}
 use lib.ListN.{length}
-use Rattle.refusal.specs.Answer.{Answer, result, refused}
+use Rattle.refusal.specs.Answer.{result, refused}
 use Rattle.framing.specs.Chunking.{chunked, writing}
 use Rattle.framing.proofs.Chunking.{answered, no-bytes, no-size, wide-size, too-long, no-room, written}
 use Rattle.framing.proofs.writer.write_chunks.Statement.{statement}
@@ -31,21 +31,12 @@ returns-4 c =
     answered (writing (a .chunk-size) (length (a .out .now)) (a .message .now)) (refused 6 0) _ (a .out .now) _
     (too-long (a .chunk-size) (length (a .out .now)) (a .message .now) (c .before .before .before .if1 .left) (c .before .before .if2 .left) (c .before .if3 .left) (c .if4 .taken)) refl refl
 
-chunked-length-requires : tie.Need-chunked-length-requires
-chunked-length-requires c κs = search needs
-
 returns-5 : tie.Need-returns-5
 returns-5 c =
     let a = c .before .before .before .before .before .before .before .before .args in
     answered (writing (a .chunk-size) (length (a .out .now)) (a .message .now)) (refused 21 0) _ (a .out .now) _
     (no-room (a .chunk-size) (length (a .out .now)) (a .message .now) (c .before .before .before .before .before .if1 .left) (c .before .before .before .before .if2 .left) (c .before .before .before .if3 .left) (c .before .before .if4 .left) (omega (arith, c .before .chunked-length .ensures)))
     refl refl
-
-put-chunks-requires : tie.Need-put-chunks-requires
-put-chunks-requires c κs = search needs
-
-same-length : tie.Need-same-length
-same-length c = search needs
 
 returns-6 : tie.Need-returns-6
 returns-6 c =
@@ -62,8 +53,8 @@ write-chunks-spec =
     returns-2
     returns-3
     returns-4
-    chunked-length-requires
+    (λ c κs. search needs)
     returns-5
-    put-chunks-requires
-    same-length
+    (λ c κs. search needs)
+    (λ c. search needs)
     returns-6)

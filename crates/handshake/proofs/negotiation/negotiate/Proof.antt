@@ -4,7 +4,7 @@ use Prim.Native.Nat.{ℕ, _≤_, _-_, _+_, _*_}
 use native.Mathlib.Omega.{arith}
 use borrow.Author.Needs.{needs}
 use borrow.Author.Tests.{not-true, not-false, lt-ltb, le-ltb}
-use lib.ListN.{drop, length, take}
+use lib.ListN.{drop}
 use mathlib.Core.List.{List}
 use mathlib.Core.Option.{Option}
 use Rattle.slices.specs.Parts.{part}
@@ -20,9 +20,6 @@ Inv-loop input k₀ k = (k ≤ 4) × (negotiated input ≡ chosen (4 - k) (drop 
 abbrev μ-loop : tie.MeasureT-loop
 μ-loop input k₀ k = 4 - k
 
-preamble-agrees-requires : tie.Need-preamble-agrees-requires Inv-loop μ-loop
-preamble-agrees-requires c κs = search needs
-
 returns : tie.Need-returns Inv-loop μ-loop
 unfolding negotiated
 returns c = simp (sym (c .before .preamble-agrees .ensures) ∙ not-true _ (c .if1 .taken))
@@ -35,21 +32,6 @@ loop-holds : tie.Need-loop-holds Inv-loop μ-loop
 unfolding negotiated
 loop-holds c = (omega arith, simp (sym (c .before .before .preamble-agrees .ensures) ∙ not-false _ (c .before .if1 .left), le-ltb _ _ (c .if2 .left)))
 
-mul-four-at : tie.Need-mul-four-at Inv-loop μ-loop
-mul-four-at c = omega arith
-
-add-four-at : tie.Need-add-four-at Inv-loop μ-loop
-add-four-at c = omega arith
-
-four-at-requires : tie.Need-four-at-requires Inv-loop μ-loop
-four-at-requires c κs = omega arith
-
-from-bytes-requires : tie.Need-from-bytes-requires Inv-loop μ-loop
-from-bytes-requires c κs = search needs
-
-enum-known-proposal : tie.Need-enum-known-proposal Inv-loop μ-loop
-enum-known-proposal c = search needs
-
 returns-3 : tie.Need-returns-3 Inv-loop μ-loop
 returns-3 c =
     let m = c .before .before .before in
@@ -60,12 +42,6 @@ returns-3 c =
 
 enum-told : tie.Need-enum-told Inv-loop μ-loop
 enum-told c = search needs
-
-add-k : tie.Need-add-k Inv-loop μ-loop
-add-k c = omega arith
-
-loop-less : tie.Need-loop-less Inv-loop μ-loop
-loop-less c = omega arith
 
 loop-again : tie.Need-loop-again Inv-loop μ-loop
 loop-again c =
@@ -88,18 +64,18 @@ negotiate-spec =
     (tie.spec
     Inv-loop
     μ-loop
-    preamble-agrees-requires
+    (λ c κs. search needs)
     returns
     returns-2
     loop-holds
-    mul-four-at
-    add-four-at
-    four-at-requires
-    from-bytes-requires
-    enum-known-proposal
+    (λ c. omega arith)
+    (λ c. omega arith)
+    (λ c κs. omega arith)
+    (λ c κs. search needs)
+    (λ c. search needs)
     returns-3
     enum-told
-    add-k
-    loop-less
+    (λ c. omega arith)
+    (λ c. omega arith)
     loop-again
     returns-4)

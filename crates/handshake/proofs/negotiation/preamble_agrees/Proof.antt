@@ -1,10 +1,9 @@
 -- `negotiation::preamble_agrees` meets its contract. The loop's invariant: the preamble agrees if what is left of it does. Assumes nothing.
-use mathlib.Core.Path.{_≡_, refl, sym, ap, _∙_}
-use Prim.Native.Nat.{ℕ, _≤_, _-_}
+use mathlib.Core.Path.{_≡_, refl, sym, _∙_}
+use Prim.Native.Nat.{_≤_, _-_}
 use native.Mathlib.Omega.{arith}
-use borrow.Author.Needs.{needs}
 use borrow.Author.Tests.{eq-eqb, ne-eqb}
-use lib.ListN.{drop, length}
+use lib.ListN.{drop}
 use Rattle.handshake.specs.Negotiation.{agrees, preamble}
 use Rattle.handshake.proofs.Choosing.{agrees-next, agrees-short, agrees-whole}
 use Rattle.handshake.proofs.negotiation.preamble_agrees.Statement.{statement}
@@ -22,22 +21,10 @@ loop-holds c = (omega arith, refl)
 returns : tie.Need-returns Inv-loop μ-loop
 returns c = sym (c .before .before .loop .inv .1 ∙ agrees-short preamble _ _ (c .if1 .taken))
 
-shared-slice-read-if2 : tie.Need-shared-slice-read-if2 Inv-loop μ-loop
-shared-slice-read-if2 c = omega arith
-
-array-read-if2 : tie.Need-array-read-if2 Inv-loop μ-loop
-array-read-if2 c = omega arith
-
 returns-2 : tie.Need-returns-2 Inv-loop μ-loop
 returns-2 c =
     let l = c .before .before .before .before .loop in
     sym (l .inv .1 ∙ agrees-next preamble _ (l .i) (omega arith) (omega arith) ∙ simp (ne-eqb _ _ (c .if2 .taken)))
-
-add-i : tie.Need-add-i Inv-loop μ-loop
-add-i c = omega arith
-
-loop-less : tie.Need-loop-less Inv-loop μ-loop
-loop-less c = omega arith
 
 loop-again : tie.Need-loop-again Inv-loop μ-loop
 loop-again c =
@@ -55,10 +42,10 @@ preamble-agrees-spec =
     μ-loop
     loop-holds
     returns
-    shared-slice-read-if2
-    array-read-if2
+    (λ c. omega arith)
+    (λ c. omega arith)
     returns-2
-    add-i
-    loop-less
+    (λ c. omega arith)
+    (λ c. omega arith)
     loop-again
     returns-3)

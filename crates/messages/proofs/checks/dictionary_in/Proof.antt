@@ -1,5 +1,5 @@
 -- `messages::checks::dictionary_in` meets its contract: by the kinds of the view. Assumes nothing.
-use mathlib.Core.Path.{_≡_, sym, ap, _∙_}
+use mathlib.Core.Path.{sym, ap, _∙_}
 use borrow.Author.Needs.{needs}
 use Rattle.messages.specs.Checks.{dictionaryAt, refusedBy}
 use Rattle.messages.proofs.Checking.{not-dictionary}

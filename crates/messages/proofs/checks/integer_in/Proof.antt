@@ -1,5 +1,5 @@
 -- `messages::checks::integer_in` meets its contract: by the kinds of the view, and by the range. Assumes nothing.
-use mathlib.Core.Path.{_≡_, sym, ap, _∙_}
+use mathlib.Core.Path.{sym, ap, _∙_}
 use mir.Facts.{toZ-ofZ}
 use borrow.Author.Needs.{sfits-of}
 use borrow.Author.Needs.{needs}
@@ -11,22 +11,10 @@ use Rattle.messages.proofs.checks.integer_in.Tie as tie
 enum-told : tie.Need-enum-told
 enum-told c = search needs
 
-enum-known-view : tie.Need-enum-known-view
-enum-known-view c = search needs
-
-is-in-range-requires : tie.Need-is-in-range-requires
-is-in-range-requires c κs = search needs
-
 returns : tie.Need-returns
 returns c = let a = c .before .before .before .before .before .args in let h = c .before in
     in-range (inRange (a .range)) (a .entry .place) (a .entry .view) _ _ _ (h .before .before .view .given .1)
     (toZ-ofZ (sfits-of (h .before .known-told .given .0 .1))) (h .is-in-range .ensures) (c .if1 .taken)
-
-invalid-requires : tie.Need-invalid-requires
-invalid-requires c κs = search needs
-
-invalid-requires-2 : tie.Need-invalid-requires-2
-invalid-requires-2 c κs = search needs
 
 returns-2 : tie.Need-returns-2
 returns-2 c = ap (integerAt (inRange (c .before .before .args .range)) (c .before .before .args .entry .place)) (sym (c .enum-told .given .1))
@@ -45,11 +33,11 @@ integer-in-spec =
     tie.close
     (tie.spec
     enum-told
-    enum-known-view
-    is-in-range-requires
+    (λ c. search needs)
+    (λ c κs. search needs)
     returns
-    invalid-requires
-    invalid-requires-2
+    (λ c κs. search needs)
+    (λ c κs. search needs)
     returns-2
     returns-3
     returns-4)

@@ -1,5 +1,5 @@
 -- `messages::entries::entries_at` meets its contract: by the head that is found. Assumes nothing.
-use mathlib.Core.Path.{_≡_, sym, ap, _∙_}
+use mathlib.Core.Path.{sym, ap, _∙_}
 use borrow.Author.Needs.{needs}
 use Rattle.packstream.specs.declared.walk.Peeked.the-variants as P
 use Rattle.messages.specs.Walk.{entriesFound}
@@ -7,20 +7,11 @@ use Rattle.messages.proofs.Viewing.{not-dictionary}
 use Rattle.messages.proofs.entries.entries_at.Statement.{statement}
 use Rattle.messages.proofs.entries.entries_at.Tie as tie
 
-peek-requires : tie.Need-peek-requires
-peek-requires c κs = search needs
-
-enum-known-head : tie.Need-enum-known-head
-enum-known-head c = search needs
-
 enum-told : tie.Need-enum-told
 enum-told c = search needs
 
 returns : tie.Need-returns
 returns c = ap entriesFound (sym (c .enum-told .given .1) ∙ c .before .before .peek .ensures)
-
-enum-known-head-2 : tie.Need-enum-known-head-2
-enum-known-head-2 c = search needs
 
 returns-2 : tie.Need-returns-2
 returns-2 c = not-dictionary (c .before .before .head .given .0 .0) (c .match2 .keys2)
@@ -34,10 +25,10 @@ pub entries-at-spec : {M : Type 1} → statement M
 entries-at-spec =
     tie.close
     (tie.spec
-    peek-requires
-    enum-known-head
+    (λ c κs. search needs)
+    (λ c. search needs)
     enum-told
     returns
-    enum-known-head-2
+    (λ c. search needs)
     returns-2
     returns-3)

@@ -27,9 +27,6 @@ loop-holds c = (omega arith, simp unary-clauses)
 string-at-requires : tie.Need-string-at-requires Inv-loop μ-loop
 string-at-requires c κs = tt
 
-enum-known-key : tie.Need-enum-known-key Inv-loop μ-loop
-enum-known-key c = search needs
-
 enum-told : tie.Need-enum-told Inv-loop μ-loop
 enum-told c = search needs
 
@@ -56,9 +53,6 @@ mul-found c = let h = number-bound (c .number-of .result) _ (c .number-of .ensur
 array-write-found : tie.Need-array-write-found Inv-loop μ-loop
 array-write-found c = number-bound _ _ (c .number-of .ensures)
 
-add-i : tie.Need-add-i Inv-loop μ-loop
-add-i c = omega arith
-
 returns-2 : tie.Need-returns-2 Inv-loop μ-loop
 returns-2 c = let a = c .before .before .before .before .before .before .before .before .before .args in let l = c .before .before .before .before .before .before .before .loop in
     last-noted (a .message .now) (a .count) (a .first) (l .i) (l .at) (l .found) (l .inv .1) (c .if1 .taken) _ (key-found (c .before .before)) _ (c .before .number-of .ensures)
@@ -66,19 +60,10 @@ returns-2 c = let a = c .before .before .before .before .before .before .before 
 skip-requires : tie.Need-skip-requires Inv-loop μ-loop
 skip-requires c κs = tt
 
-enum-known-end : tie.Need-enum-known-end Inv-loop μ-loop
-enum-known-end c = search needs
-
-enum-told-2 : tie.Need-enum-told-2 Inv-loop μ-loop
-enum-told-2 c = search needs
-
 returns-3 : tie.Need-returns-3 Inv-loop μ-loop
 returns-3 c = let a = c .before .before .before .before .before .before .before .before .before .before .before .before .args in let l = c .before .before .before .before .before .before .before .before .before .before .loop in
     no-value (a .message .now) (a .count) (a .first) (l .i) (l .at) (l .found) (l .inv .1) (c .before .before .before .before .before .before .before .before .before .loop-test .taken) _ (key-found (c .before .before .before .before .before)) _ (c .before .before .before .before .number-of .ensures)
     (sym (c .enum-told2 .given .1) ∙ c .before .before .skip .ensures)
-
-loop-less : tie.Need-loop-less Inv-loop μ-loop
-loop-less c = omega arith
 
 loop-again : tie.Need-loop-again Inv-loop μ-loop
 loop-again c = let a = c .before .before .before .before .before .before .before .before .before .before .before .before .before .args in let l = c .before .before .before .before .before .before .before .before .before .before .before .loop in (
@@ -98,19 +83,19 @@ find-spec =
     μ-loop
     loop-holds
     string-at-requires
-    enum-known-key
+    (λ c. search needs)
     enum-told
     returns
     add-place
     number-of-requires
     mul-found
     array-write-found
-    add-i
+    (λ c. omega arith)
     returns-2
     skip-requires
-    enum-known-end
-    enum-told-2
+    (λ c. search needs)
+    (λ c. search needs)
     returns-3
-    loop-less
+    (λ c. omega arith)
     loop-again
     returns-4)

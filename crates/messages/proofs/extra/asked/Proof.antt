@@ -1,5 +1,5 @@
 -- `messages::extra::asked` meets its contract: by the kind. Assumes nothing.
-use mathlib.Core.Path.{_≡_, sym, ap, _∙_}
+use mathlib.Core.Path.{sym, ap, _∙_}
 use borrow.Author.Needs.{needs}
 use Rattle.messages.specs.Requests.{toldTransaction, toldBatch}
 use Rattle.messages.proofs.extra.asked.Statement.{statement}
@@ -7,45 +7,6 @@ use Rattle.messages.proofs.extra.asked.Tie as tie
 
 enum-told : tie.Need-enum-told
 enum-told c = search needs
-
-hello-requires : tie.Need-hello-requires
-hello-requires c κs = search needs
-
-enum-told-2 : tie.Need-enum-told-2
-enum-told-2 c = search needs
-
-transaction-requires : tie.Need-transaction-requires
-transaction-requires c κs = search needs
-
-enum-known-given : tie.Need-enum-known-given
-enum-known-given c = search needs
-
-enum-known-fault : tie.Need-enum-known-fault
-enum-known-fault c = search needs
-
-enum-told-3 : tie.Need-enum-told-3
-enum-told-3 c = search needs
-
-batch-requires : tie.Need-batch-requires
-batch-requires c κs = search needs
-
-enum-known-given-2 : tie.Need-enum-known-given-2
-enum-known-given-2 c = search needs
-
-enum-known-fault-2 : tie.Need-enum-known-fault-2
-enum-known-fault-2 c = search needs
-
-enum-told-4 : tie.Need-enum-told-4
-enum-told-4 c = search needs
-
-batch-requires-2 : tie.Need-batch-requires-2
-batch-requires-2 c κs = search needs
-
-enum-known-given-3 : tie.Need-enum-known-given-3
-enum-known-given-3 c = search needs
-
-enum-known-fault-3 : tie.Need-enum-known-fault-3
-enum-known-fault-3 c = search needs
 
 returns : tie.Need-returns
 returns c = rw (c .before .enum-told .given .1) (c .hello .ensures)
@@ -73,19 +34,19 @@ asked-spec =
     tie.close
     (tie.spec
     enum-told
-    hello-requires
-    enum-told-2
-    transaction-requires
-    enum-known-given
-    enum-known-fault
-    enum-told-3
-    batch-requires
-    enum-known-given-2
-    enum-known-fault-2
-    enum-told-4
-    batch-requires-2
-    enum-known-given-3
-    enum-known-fault-3
+    (λ c κs. search needs)
+    (λ c. search needs)
+    (λ c κs. search needs)
+    (λ c. search needs)
+    (λ c. search needs)
+    (λ c. search needs)
+    (λ c κs. search needs)
+    (λ c. search needs)
+    (λ c. search needs)
+    (λ c. search needs)
+    (λ c κs. search needs)
+    (λ c. search needs)
+    (λ c. search needs)
     returns
     returns-2
     returns-3

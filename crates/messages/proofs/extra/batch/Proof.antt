@@ -26,61 +26,22 @@ stream : (d : tie.After-integer-in2) {r : CheckedNumber} → d .integer-in2 .res
 stream d g = let a = d .before .before .before .before .before .before .before .before .before .before .before .args in
     checked toldNumber (integerIn (inRange Stream)) (d .integer-in2 .ensures) (d .before .entry-at2 .ensures ∙ entry-is (a .message .now) (a .t3) 11 (omega arith)) g
 
-array-read-entry-at : tie.Need-array-read-entry-at
-array-read-entry-at c = search needs
-
-entry-at-requires : tie.Need-entry-at-requires
-entry-at-requires c κs = search needs
-
-integer-in-requires : tie.Need-integer-in-requires
-integer-in-requires c κs = search needs
-
-enum-known-number : tie.Need-enum-known-number
-enum-known-number c = search needs
-
-enum-known-fault : tie.Need-enum-known-fault
-enum-known-fault c = search needs
-
 returns : tie.Need-returns
 unfolding batch
 returns c = rw (records (c .before .before .before) (c .before .fault .given .1))
 
-enum-known-given : tie.Need-enum-known-given
-enum-known-given c = search needs
-
 enum-told : tie.Need-enum-told
 enum-told c = search needs
-
-invalid-requires : tie.Need-invalid-requires
-invalid-requires c κs = search needs
 
 returns-2 : tie.Need-returns-2
 unfolding batch
 returns-2 c = let t = c .before .before .before .before in
     ap refusedBy (c .invalid .ensures) ∙ rw (records (t .before .before) (t .number .given .1), c .before .enum-told .given .1)
 
-array-read-entry-at-2 : tie.Need-array-read-entry-at-2
-array-read-entry-at-2 c = search needs
-
-entry-at-requires-2 : tie.Need-entry-at-requires-2
-entry-at-requires-2 c κs = search needs
-
-integer-in-requires-2 : tie.Need-integer-in-requires-2
-integer-in-requires-2 c κs = search needs
-
-enum-known-number-2 : tie.Need-enum-known-number-2
-enum-known-number-2 c = search needs
-
-enum-known-fault-2 : tie.Need-enum-known-fault-2
-enum-known-fault-2 c = search needs
-
 returns-3 : tie.Need-returns-3
 unfolding batch
 returns-3 c = let g = c .before .before .before .before .before .before in let t = g .before .before .before in
     rw (records (t .before .before) (t .number .given .1), g .given .given .1, stream (c .before .before .before) (c .before .fault2 .given .1))
-
-or-minus-one-requires : tie.Need-or-minus-one-requires
-or-minus-one-requires c κs = search needs
 
 returns-4 : tie.Need-returns-4
 unfolding batch
@@ -93,21 +54,21 @@ pub batch-spec : {M : Type 1} → statement M
 batch-spec =
     tie.close
     (tie.spec
-    array-read-entry-at
-    entry-at-requires
-    integer-in-requires
-    enum-known-number
-    enum-known-fault
+    (λ c. search needs)
+    (λ c κs. search needs)
+    (λ c κs. search needs)
+    (λ c. search needs)
+    (λ c. search needs)
     returns
-    enum-known-given
+    (λ c. search needs)
     enum-told
-    invalid-requires
+    (λ c κs. search needs)
     returns-2
-    array-read-entry-at-2
-    entry-at-requires-2
-    integer-in-requires-2
-    enum-known-number-2
-    enum-known-fault-2
+    (λ c. search needs)
+    (λ c κs. search needs)
+    (λ c κs. search needs)
+    (λ c. search needs)
+    (λ c. search needs)
     returns-3
-    or-minus-one-requires
+    (λ c κs. search needs)
     returns-4)

@@ -44,93 +44,27 @@ routing d g = let a = d .before .before .before .before .before .before .before 
     (d .before .entry-at5 .ensures ∙ ap (entryAt (a .message .now)) (d .before .before .since .ensures)
     ∙ entry-since (a .message .now) (leb 1 (a .version .minor)) (getD (a .t4) 4 0) (entryIn (a .message .now) (a .t4) Name.routing) (entry-is (a .message .now) (a .t4) 4 (omega arith))) g
 
-array-read-entry-at : tie.Need-array-read-entry-at
-array-read-entry-at c = search needs
-
-entry-at-requires : tie.Need-entry-at-requires
-entry-at-requires c κs = search needs
-
-string-in-requires : tie.Need-string-in-requires
-string-in-requires c κs = search needs
-
-enum-known-text : tie.Need-enum-known-text
-enum-known-text c = search needs
-
-enum-known-fault : tie.Need-enum-known-fault
-enum-known-fault c = search needs
-
 returns : tie.Need-returns
 unfolding hello
 returns c = rw (agent (c .before .before .before) (c .before .fault .given .1))
 
-enum-known-given : tie.Need-enum-known-given
-enum-known-given c = search needs
-
 enum-told : tie.Need-enum-told
 enum-told c = search needs
-
-invalid-requires : tie.Need-invalid-requires
-invalid-requires c κs = search needs
 
 returns-2 : tie.Need-returns-2
 unfolding hello
 returns-2 c = let t1 = c .before .before .before .before in
     ap refusedBy (c .invalid .ensures) ∙ rw (agent (t1 .before .before) (t1 .text .given .1), c .before .enum-told .given .1)
 
-array-read-entry-at-2 : tie.Need-array-read-entry-at-2
-array-read-entry-at-2 c = search needs
-
-entry-at-requires-2 : tie.Need-entry-at-requires-2
-entry-at-requires-2 c κs = search needs
-
-string-in-requires-2 : tie.Need-string-in-requires-2
-string-in-requires-2 c κs = search needs
-
-enum-known-text-2 : tie.Need-enum-known-text-2
-enum-known-text-2 c = search needs
-
-enum-known-fault-2 : tie.Need-enum-known-fault-2
-enum-known-fault-2 c = search needs
-
 returns-3 : tie.Need-returns-3
 unfolding hello
 returns-3 c = let g = c .before .before .before .before .before .before in let t1 = g .before .before .before in
     rw (agent (t1 .before .before) (t1 .text .given .1), g .given .given .1, scheme (c .before .before .before) (c .before .fault2 .given .1))
 
-array-read-entry-at-3 : tie.Need-array-read-entry-at-3
-array-read-entry-at-3 c = search needs
-
-entry-at-requires-3 : tie.Need-entry-at-requires-3
-entry-at-requires-3 c κs = search needs
-
-string-in-requires-3 : tie.Need-string-in-requires-3
-string-in-requires-3 c κs = search needs
-
-enum-known-text-3 : tie.Need-enum-known-text-3
-enum-known-text-3 c = search needs
-
-enum-known-fault-3 : tie.Need-enum-known-fault-3
-enum-known-fault-3 c = search needs
-
 returns-4 : tie.Need-returns-4
 unfolding hello
 returns-4 c = let t2 = c .before .before .before .before .before .before in let g = t2 .before .before .before .before .before in let t1 = g .before .before .before in
     rw (agent (t1 .before .before) (t1 .text .given .1), g .given .given .1, scheme (t2 .before .before) (t2 .text2 .given .1), principal (c .before .before .before) (c .before .fault3 .given .1))
-
-array-read-entry-at-4 : tie.Need-array-read-entry-at-4
-array-read-entry-at-4 c = search needs
-
-entry-at-requires-4 : tie.Need-entry-at-requires-4
-entry-at-requires-4 c κs = search needs
-
-string-in-requires-4 : tie.Need-string-in-requires-4
-string-in-requires-4 c κs = search needs
-
-enum-known-text-4 : tie.Need-enum-known-text-4
-enum-known-text-4 c = search needs
-
-enum-known-fault-4 : tie.Need-enum-known-fault-4
-enum-known-fault-4 c = search needs
 
 returns-5 : tie.Need-returns-5
 unfolding hello
@@ -142,24 +76,6 @@ returns-5 c = let t3 = c .before .before .before .before .before .before in let 
       principal (t3 .before .before) (t3 .text3 .given .1),
       credentials (c .before .before .before) (c .before .fault4 .given .1),
     )
-
-array-read-since : tie.Need-array-read-since
-array-read-since c = search needs
-
-since-requires : tie.Need-since-requires
-since-requires c κs = search needs
-
-entry-at-requires-5 : tie.Need-entry-at-requires-5
-entry-at-requires-5 c κs = search needs
-
-dictionary-in-requires : tie.Need-dictionary-in-requires
-dictionary-in-requires c κs = search needs
-
-enum-known-place : tie.Need-enum-known-place
-enum-known-place c = search needs
-
-enum-known-fault-5 : tie.Need-enum-known-fault-5
-enum-known-fault-5 c = search needs
 
 returns-6 : tie.Need-returns-6
 unfolding hello
@@ -189,39 +105,39 @@ pub hello-spec : {M : Type 1} → statement M
 hello-spec =
     tie.close
     (tie.spec
-    array-read-entry-at
-    entry-at-requires
-    string-in-requires
-    enum-known-text
-    enum-known-fault
+    (λ c. search needs)
+    (λ c κs. search needs)
+    (λ c κs. search needs)
+    (λ c. search needs)
+    (λ c. search needs)
     returns
-    enum-known-given
+    (λ c. search needs)
     enum-told
-    invalid-requires
+    (λ c κs. search needs)
     returns-2
-    array-read-entry-at-2
-    entry-at-requires-2
-    string-in-requires-2
-    enum-known-text-2
-    enum-known-fault-2
+    (λ c. search needs)
+    (λ c κs. search needs)
+    (λ c κs. search needs)
+    (λ c. search needs)
+    (λ c. search needs)
     returns-3
-    array-read-entry-at-3
-    entry-at-requires-3
-    string-in-requires-3
-    enum-known-text-3
-    enum-known-fault-3
+    (λ c. search needs)
+    (λ c κs. search needs)
+    (λ c κs. search needs)
+    (λ c. search needs)
+    (λ c. search needs)
     returns-4
-    array-read-entry-at-4
-    entry-at-requires-4
-    string-in-requires-4
-    enum-known-text-4
-    enum-known-fault-4
+    (λ c. search needs)
+    (λ c κs. search needs)
+    (λ c κs. search needs)
+    (λ c. search needs)
+    (λ c. search needs)
     returns-5
-    array-read-since
-    since-requires
-    entry-at-requires-5
-    dictionary-in-requires
-    enum-known-place
-    enum-known-fault-5
+    (λ c. search needs)
+    (λ c κs. search needs)
+    (λ c κs. search needs)
+    (λ c κs. search needs)
+    (λ c. search needs)
+    (λ c. search needs)
     returns-6
     returns-7)

@@ -1,5 +1,5 @@
 -- `messages::extra::since` meets its contract: by the version. Assumes nothing.
-use mathlib.Core.Path.{_≡_, sym, _∙_}
+use mathlib.Core.Path.{sym, _∙_}
 use borrow.Author.Needs.{needs}
 use Rattle.messages.proofs.extra.since.Statement.{statement}
 use Rattle.messages.proofs.extra.since.Tie as tie

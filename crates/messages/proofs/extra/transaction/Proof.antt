@@ -41,59 +41,14 @@ db : (d : tie.After-string-in) {r : CheckedText} → d .string-in .result ≡ r
 db d g = let a = d .before .before .before .before .before .before .before .before .before .before .before .before .before .before .before .before .before .before .before .before .before .before .before .args in
     checked toldText stringIn (d .string-in .ensures) (d .before .entry-at5 .ensures ∙ entry-is (a .message .now) (a .t2) 9 (omega arith)) g
 
-array-read-entry-at : tie.Need-array-read-entry-at
-array-read-entry-at c = search needs
-
-entry-at-requires : tie.Need-entry-at-requires
-entry-at-requires c κs = search needs
-
-list-of-strings-in-requires : tie.Need-list-of-strings-in-requires
-list-of-strings-in-requires c κs = search needs
-
-enum-known-place : tie.Need-enum-known-place
-enum-known-place c = search needs
-
-enum-known-fault : tie.Need-enum-known-fault
-enum-known-fault c = search needs
-
 returns : tie.Need-returns
 unfolding transaction
 returns c = rw (bookmarks (c .before .before .before) (c .before .fault .given .1))
-
-array-read-entry-at-2 : tie.Need-array-read-entry-at-2
-array-read-entry-at-2 c = search needs
-
-entry-at-requires-2 : tie.Need-entry-at-requires-2
-entry-at-requires-2 c κs = search needs
-
-integer-in-requires : tie.Need-integer-in-requires
-integer-in-requires c κs = search needs
-
-enum-known-number : tie.Need-enum-known-number
-enum-known-number c = search needs
-
-enum-known-fault-2 : tie.Need-enum-known-fault-2
-enum-known-fault-2 c = search needs
 
 returns-2 : tie.Need-returns-2
 unfolding transaction
 returns-2 c = let t1 = c .before .before .before .before .before .before in
     rw (bookmarks (t1 .before .before) (t1 .place .given .1), timeout (c .before .before .before) (c .before .fault2 .given .1))
-
-array-read-entry-at-3 : tie.Need-array-read-entry-at-3
-array-read-entry-at-3 c = search needs
-
-entry-at-requires-3 : tie.Need-entry-at-requires-3
-entry-at-requires-3 c κs = search needs
-
-dictionary-in-requires : tie.Need-dictionary-in-requires
-dictionary-in-requires c κs = search needs
-
-enum-known-place-2 : tie.Need-enum-known-place-2
-enum-known-place-2 c = search needs
-
-enum-known-fault-3 : tie.Need-enum-known-fault-3
-enum-known-fault-3 c = search needs
 
 returns-3 : tie.Need-returns-3
 unfolding transaction
@@ -104,21 +59,6 @@ returns-3 c = let t2 = c .before .before .before .before .before .before in let 
       metadata (c .before .before .before) (c .before .fault3 .given .1),
     )
 
-array-read-entry-at-4 : tie.Need-array-read-entry-at-4
-array-read-entry-at-4 c = search needs
-
-entry-at-requires-4 : tie.Need-entry-at-requires-4
-entry-at-requires-4 c κs = search needs
-
-mode-in-requires : tie.Need-mode-in-requires
-mode-in-requires c κs = search needs
-
-enum-known-mode : tie.Need-enum-known-mode
-enum-known-mode c = search needs
-
-enum-known-fault-4 : tie.Need-enum-known-fault-4
-enum-known-fault-4 c = search needs
-
 returns-4 : tie.Need-returns-4
 unfolding transaction
 returns-4 c = let t3 = c .before .before .before .before .before .before in let t2 = t3 .before .before .before .before .before in let t1 = t2 .before .before .before .before .before in
@@ -128,21 +68,6 @@ returns-4 c = let t3 = c .before .before .before .before .before .before in let 
       metadata (t3 .before .before) (t3 .place2 .given .1),
       access (c .before .before .before) (c .before .fault4 .given .1),
     )
-
-array-read-entry-at-5 : tie.Need-array-read-entry-at-5
-array-read-entry-at-5 c = search needs
-
-entry-at-requires-5 : tie.Need-entry-at-requires-5
-entry-at-requires-5 c κs = search needs
-
-string-in-requires : tie.Need-string-in-requires
-string-in-requires c κs = search needs
-
-enum-known-text : tie.Need-enum-known-text
-enum-known-text c = search needs
-
-enum-known-fault-5 : tie.Need-enum-known-fault-5
-enum-known-fault-5 c = search needs
 
 returns-5 : tie.Need-returns-5
 unfolding transaction
@@ -170,34 +95,34 @@ pub transaction-spec : {M : Type 1} → statement M
 transaction-spec =
     tie.close
     (tie.spec
-    array-read-entry-at
-    entry-at-requires
-    list-of-strings-in-requires
-    enum-known-place
-    enum-known-fault
+    (λ c. search needs)
+    (λ c κs. search needs)
+    (λ c κs. search needs)
+    (λ c. search needs)
+    (λ c. search needs)
     returns
-    array-read-entry-at-2
-    entry-at-requires-2
-    integer-in-requires
-    enum-known-number
-    enum-known-fault-2
+    (λ c. search needs)
+    (λ c κs. search needs)
+    (λ c κs. search needs)
+    (λ c. search needs)
+    (λ c. search needs)
     returns-2
-    array-read-entry-at-3
-    entry-at-requires-3
-    dictionary-in-requires
-    enum-known-place-2
-    enum-known-fault-3
+    (λ c. search needs)
+    (λ c κs. search needs)
+    (λ c κs. search needs)
+    (λ c. search needs)
+    (λ c. search needs)
     returns-3
-    array-read-entry-at-4
-    entry-at-requires-4
-    mode-in-requires
-    enum-known-mode
-    enum-known-fault-4
+    (λ c. search needs)
+    (λ c κs. search needs)
+    (λ c κs. search needs)
+    (λ c. search needs)
+    (λ c. search needs)
     returns-4
-    array-read-entry-at-5
-    entry-at-requires-5
-    string-in-requires
-    enum-known-text
-    enum-known-fault-5
+    (λ c. search needs)
+    (λ c κs. search needs)
+    (λ c κs. search needs)
+    (λ c. search needs)
+    (λ c. search needs)
     returns-5
     returns-6)

@@ -14,20 +14,8 @@ Inv-loop message start size number at i₀ i = (i ≤ size) × Comparing message
 abbrev μ-loop : tie.MeasureT-loop
 μ-loop message start size number at i₀ i = size - i
 
-mul-at : tie.Need-mul-at Inv-loop μ-loop
-mul-at c = omega arith
-
-array-read-at : tie.Need-array-read-at Inv-loop μ-loop
-array-read-at c = omega arith
-
 loop-holds : tie.Need-loop-holds Inv-loop μ-loop
 loop-holds c = let a = c .args in (omega arith, comparing-none (a .message .now) (a .start) written (startOf (a .number)) (a .size))
-
-add-if1 : tie.Need-add-if1 Inv-loop μ-loop
-add-if1 c = omega arith
-
-shared-slice-read-if1 : tie.Need-shared-slice-read-if1 Inv-loop μ-loop
-shared-slice-read-if1 c = omega arith
 
 add-if1-2 : tie.Need-add-if1-2 Inv-loop μ-loop
 add-if1-2 c = let a = c .before .before .before .args in let h = c .before .before .before .pre in
@@ -43,12 +31,6 @@ returns c = let a = c .before .before .before .before .args in let h = c .before
     sym (ap (same (part (a .message .now) (a .start) (a .size))) (sym (name-is (a .number) (h .1) (a .size) (h .2)))
     ∙ one-differs (a .message .now) (a .start) written (startOf (a .number)) (a .size) (l .i) (l .inv .1) (c .before .before .loop-test .taken) (h .0)
     (its-room (a .number) (h .1) (a .size) (h .2)) (c .if1 .taken))
-
-add-i : tie.Need-add-i Inv-loop μ-loop
-add-i c = omega arith
-
-loop-less : tie.Need-loop-less Inv-loop μ-loop
-loop-less c = omega arith
 
 loop-again : tie.Need-loop-again Inv-loop μ-loop
 unfolding spaced
@@ -69,15 +51,15 @@ is-name-spec =
     (tie.spec
     Inv-loop
     μ-loop
-    mul-at
-    array-read-at
+    (λ c. omega arith)
+    (λ c. omega arith)
     loop-holds
-    add-if1
-    shared-slice-read-if1
+    (λ c. omega arith)
+    (λ c. omega arith)
     add-if1-2
     array-read-if1
     returns
-    add-i
-    loop-less
+    (λ c. omega arith)
+    (λ c. omega arith)
     loop-again
     returns-2)

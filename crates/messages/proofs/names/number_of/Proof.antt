@@ -17,12 +17,6 @@ abbrev μ-loop : tie.MeasureT-loop
 returns : tie.Need-returns Inv-loop μ-loop
 returns c = let a = c .before .before .args in too-long _ (a .size) (length-part (a .message .now) (a .start) (a .size) (c .before .before .pre)) (c .if1 .taken)
 
-mul-k : tie.Need-mul-k Inv-loop μ-loop
-mul-k c = omega arith
-
-array-read-k : tie.Need-array-read-k Inv-loop μ-loop
-array-read-k c = omega arith
-
 loop-holds : tie.Need-loop-holds Inv-loop μ-loop
 loop-holds c = let a = c .before .before .args in
     try-first _ (a .size) (length-part (a .message .now) (a .start) (a .size) (c .before .before .pre)) (omega arith)
@@ -34,12 +28,6 @@ is-name-requires c κs = let a = c .before .before .before .before .args in let 
 returns-2 : tie.Need-returns-2 Inv-loop μ-loop
 returns-2 c = let l = c .before .before .before .loop in
     found-name _ (l .k) (l .inv) (c .before .before .loop-test .taken) (sym (c .before .is-name .ensures) ∙ c .if2 .taken)
-
-mul-k-2 : tie.Need-mul-k-2 Inv-loop μ-loop
-mul-k-2 c = omega arith
-
-array-read-k-2 : tie.Need-array-read-k-2 Inv-loop μ-loop
-array-read-k-2 c = omega arith
 
 loop-less : tie.Need-loop-less Inv-loop μ-loop
 loop-less c = let l = next-later (c .before .before .before .loop .k) (c .before .before .loop-test .taken) in omega arith
@@ -58,13 +46,13 @@ number-of-spec =
     Inv-loop
     μ-loop
     returns
-    mul-k
-    array-read-k
+    (λ c. omega arith)
+    (λ c. omega arith)
     loop-holds
     is-name-requires
     returns-2
-    mul-k-2
-    array-read-k-2
+    (λ c. omega arith)
+    (λ c. omega arith)
     loop-less
     loop-again
     returns-3)

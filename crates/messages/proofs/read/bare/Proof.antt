@@ -1,5 +1,5 @@
 -- `messages::read::bare` meets its contract: by the number of fields. Assumes nothing.
-use mathlib.Core.Path.{_≡_, ap, _∙_}
+use mathlib.Core.Path.{ap, _∙_}
 use borrow.Author.Tests.{eq-eqb, ne-eqb}
 use borrow.Author.Needs.{needs}
 use Rattle.messages.specs.Requests.{told}

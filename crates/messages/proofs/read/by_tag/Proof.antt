@@ -1,41 +1,11 @@
 -- `messages::read::by_tag` meets its contract: by the tag. Assumes nothing.
-use mathlib.Core.Path.{_≡_, ap, _∙_}
+use mathlib.Core.Path.{ap, _∙_}
 use borrow.Author.Tests.{ne-eqb}
 use borrow.Author.Needs.{needs}
 use Rattle.messages.specs.Requests.{tagged, told}
 use Rattle.messages.proofs.Fields.{none-is}
 use Rattle.messages.proofs.read.by_tag.Statement.{statement}
 use Rattle.messages.proofs.read.by_tag.Tie as tie
-
-extra-alone-requires : tie.Need-extra-alone-requires
-extra-alone-requires c κs = search needs
-
-bare-requires : tie.Need-bare-requires
-bare-requires c κs = search needs
-
-bare-requires-2 : tie.Need-bare-requires-2
-bare-requires-2 c κs = search needs
-
-run-requires : tie.Need-run-requires
-run-requires c κs = search needs
-
-extra-alone-requires-2 : tie.Need-extra-alone-requires-2
-extra-alone-requires-2 c κs = search needs
-
-bare-requires-3 : tie.Need-bare-requires-3
-bare-requires-3 c κs = search needs
-
-bare-requires-4 : tie.Need-bare-requires-4
-bare-requires-4 c κs = search needs
-
-extra-alone-requires-3 : tie.Need-extra-alone-requires-3
-extra-alone-requires-3 c κs = search needs
-
-extra-alone-requires-4 : tie.Need-extra-alone-requires-4
-extra-alone-requires-4 c κs = search needs
-
-refused-requires : tie.Need-refused-requires
-refused-requires c κs = search needs
 
 returns : tie.Need-returns
 unfolding tagged
@@ -92,16 +62,16 @@ pub by-tag-spec : {M : Type 1} → statement M
 by-tag-spec =
     tie.close
     (tie.spec
-    extra-alone-requires
-    bare-requires
-    bare-requires-2
-    run-requires
-    extra-alone-requires-2
-    bare-requires-3
-    bare-requires-4
-    extra-alone-requires-3
-    extra-alone-requires-4
-    refused-requires
+    (λ c κs. search needs)
+    (λ c κs. search needs)
+    (λ c κs. search needs)
+    (λ c κs. search needs)
+    (λ c κs. search needs)
+    (λ c κs. search needs)
+    (λ c κs. search needs)
+    (λ c κs. search needs)
+    (λ c κs. search needs)
+    (λ c κs. search needs)
     returns
     returns-2
     returns-3

@@ -1,5 +1,5 @@
 -- `messages::read::extra_alone` meets its contract: the one field is a Dictionary, or it is not. Assumes nothing.
-use mathlib.Core.Path.{_≡_, sym, ap, _∙_}
+use mathlib.Core.Path.{sym, ap, _∙_}
 use borrow.Author.Needs.{needs}
 use Rattle.messages.specs.Checks.{refusedBy}
 use Rattle.messages.specs.Requests.{asks, extra, told}
@@ -7,36 +7,18 @@ use Rattle.messages.proofs.Fields.{one-wrong, no-extra, extra-there}
 use Rattle.messages.proofs.read.extra_alone.Statement.{statement}
 use Rattle.messages.proofs.read.extra_alone.Tie as tie
 
-refused-requires : tie.Need-refused-requires
-refused-requires c κs = search needs
-
 returns : tie.Need-returns
 returns c = let a = c .before .before .before .args in λ vs fields.
     ap told (c .refused .ensures) ∙ one-wrong (a .fields) vs (extra (asks (a .kind) (a .version .minor))) (fields .count) (c .before .if1 .taken)
 
-entries-at-requires : tie.Need-entries-at-requires
-entries-at-requires c κs = search needs
-
-enum-known-first : tie.Need-enum-known-first
-enum-known-first c = search needs
-
 enum-told : tie.Need-enum-told
 enum-told c = search needs
-
-invalid-requires : tie.Need-invalid-requires
-invalid-requires c κs = search needs
 
 returns-2 : tie.Need-returns-2
 returns-2 c = let a = c .before .before .before .before .before .before .args in λ vs fields.
     ap refusedBy (c .invalid .ensures)
     ∙ no-extra (a .message .now) (a .at) (a .fields) vs fields (c .before .before .before .before .if1 .left) (a .kind) (a .version .minor)
     (sym (c .before .enum-told .given .1) ∙ c .before .before .before .entries-at .ensures)
-
-find-requires : tie.Need-find-requires
-find-requires c κs = search needs
-
-asked-requires : tie.Need-asked-requires
-asked-requires c κs = search needs
 
 returns-3 : tie.Need-returns-3
 returns-3 c = let a = c .before .before .before .before .before .before .before .before .args in let d = c .before .before .before in λ vs fields.
@@ -48,13 +30,13 @@ pub extra-alone-spec : {M : Type 1} → statement M
 extra-alone-spec =
     tie.close
     (tie.spec
-    refused-requires
+    (λ c κs. search needs)
     returns
-    entries-at-requires
-    enum-known-first
+    (λ c κs. search needs)
+    (λ c. search needs)
     enum-told
-    invalid-requires
+    (λ c κs. search needs)
     returns-2
-    find-requires
-    asked-requires
+    (λ c κs. search needs)
+    (λ c κs. search needs)
     returns-3)

@@ -1,5 +1,5 @@
 -- `messages::read::run` meets its contract: field by field, as far as they are right. Assumes nothing.
-use mathlib.Core.Path.{_≡_, sym, ap, _∙_}
+use mathlib.Core.Path.{sym, ap, _∙_}
 use Prim.Native.Nat.{_+_}
 use native.Mathlib.Omega.{arith}
 use borrow.Author.Needs.{needs}
@@ -22,24 +22,12 @@ use Rattle.messages.proofs.read.run.Tie as tie
 abbrev runWith : Span → Transaction → Answer Request
 runWith query t = result (R.Run query (query .start + query .size) t)
 
-refused-requires : tie.Need-refused-requires
-refused-requires c κs = search needs
-
 returns : tie.Need-returns
 returns c = let a = c .before .before .before .args in λ vs fields.
     ap told (c .refused .ensures) ∙ three-wrong (a .fields) vs run (fields .count) (c .before .if1 .taken)
 
-string-at-requires : tie.Need-string-at-requires
-string-at-requires c κs = search needs
-
-enum-known-query : tie.Need-enum-known-query
-enum-known-query c = search needs
-
 enum-told : tie.Need-enum-told
 enum-told c = search needs
-
-invalid-requires : tie.Need-invalid-requires
-invalid-requires c κs = search needs
 
 returns-2 : tie.Need-returns-2
 returns-2 c = let a = c .before .before .before .before .before .before .args in λ vs fields.
@@ -51,18 +39,6 @@ add-parameters : tie.Need-add-parameters
 add-parameters c = let a = c .before .before .before .before .before .before .before .args in let q = c .before .before in
     let w = string-within (a .message .now) (a .at) (q .query .given .0 .0) (sym (q .query .given .1) ∙ q .before .before .string-at .ensures) in omega (arith, w .inside)
 
-entries-at-requires : tie.Need-entries-at-requires
-entries-at-requires c κs = search needs
-
-enum-told-2 : tie.Need-enum-told-2
-enum-told-2 c = search needs
-
-enum-told-3 : tie.Need-enum-told-3
-enum-told-3 c = search needs
-
-invalid-requires-2 : tie.Need-invalid-requires-2
-invalid-requires-2 c κs = search needs
-
 returns-3 : tie.Need-returns-3
 returns-3 c = let a = c .before .before .before .before .before .before .before .before .before .before .before .args in let q = c .before .before .before .before .before .before in λ vs fields.
     ap refusedBy (c .invalid2 .ensures)
@@ -70,36 +46,12 @@ returns-3 c = let a = c .before .before .before .before .before .before .before 
     (q .query .given .0 .0) (sym (q .query .given .1) ∙ q .before .before .string-at .ensures)
     (sym (c .before .enum-told3 .given .1) ∙ c .before .before .before .entries-at .ensures)
 
-skip-requires : tie.Need-skip-requires
-skip-requires c κs = search needs
-
-enum-known-extra : tie.Need-enum-known-extra
-enum-known-extra c = search needs
-
-enum-told-4 : tie.Need-enum-told-4
-enum-told-4 c = search needs
-
-invalid-requires-3 : tie.Need-invalid-requires-3
-invalid-requires-3 c κs = search needs
-
 returns-4 : tie.Need-returns-4
 returns-4 c = let a = c .before .before .before .before .before .before .before .before .before .before .before .before .before .before .args in let q = c .before .before .before .before .before .before .before .before .before in let p = c .before .before .before .before in λ vs fields.
     absurd (not-cut (a .message .now) (a .at) (a .fields) vs fields (q .before .before .before .if1 .left)
     (q .query .given .0 .0) (sym (q .query .given .1) ∙ q .before .before .string-at .ensures)
     (p .enum-told2 .given .0 .0) (p .enum-told2 .given .0 .1 .0) (sym (p .enum-told2 .given .1) ∙ p .before .before .entries-at .ensures)
     (sym (c .before .enum-told4 .given .1) ∙ c .before .before .before .skip .ensures))
-
-entries-at-requires-2 : tie.Need-entries-at-requires-2
-entries-at-requires-2 c κs = search needs
-
-enum-known-first : tie.Need-enum-known-first
-enum-known-first c = search needs
-
-enum-told-5 : tie.Need-enum-told-5
-enum-told-5 c = search needs
-
-invalid-requires-4 : tie.Need-invalid-requires-4
-invalid-requires-4 c κs = search needs
 
 returns-5 : tie.Need-returns-5
 returns-5 c = let a = c .before .before .before .before .before .before .before .before .before .before .before .before .before .before .before .before .before .before .args in let q = c .before .before .before .before .before .before .before .before .before .before .before .before .before in let p = c .before .before .before .before .before .before .before .before in let x = c .before .before .before .before .before in λ vs fields.
@@ -109,18 +61,6 @@ returns-5 c = let a = c .before .before .before .before .before .before .before 
     (p .enum-told2 .given .0 .0) (p .enum-told2 .given .0 .1 .0) (sym (p .enum-told2 .given .1) ∙ p .before .before .entries-at .ensures)
     (x .extra .given .0 .0) (sym (x .extra .given .1) ∙ x .before .before .skip .ensures)
     (sym (c .before .enum-told5 .given .1) ∙ c .before .before .before .entries-at2 .ensures)
-
-find-requires : tie.Need-find-requires
-find-requires c κs = search needs
-
-transaction-requires : tie.Need-transaction-requires
-transaction-requires c κs = search needs
-
-enum-known-given : tie.Need-enum-known-given
-enum-known-given c = search needs
-
-enum-known-fault : tie.Need-enum-known-fault
-enum-known-fault c = search needs
 
 returns-6 : tie.Need-returns-6
 returns-6 c = let a = c .before .before .before .before .before .before .before .before .before .before .before .before .before .before .before .before .before .before .before .before .before .before .before .args in let q = c .before .before .before .before .before .before .before .before .before .before .before .before .before .before .before .before .before .before in let p = c .before .before .before .before .before .before .before .before .before .before .before .before .before in let x = c .before .before .before .before .before .before .before .before .before .before in let f = c .before .before .before .before .before .before in λ vs fields.
@@ -146,32 +86,32 @@ pub run-spec : {M : Type 1} → statement M
 run-spec =
     tie.close
     (tie.spec
-    refused-requires
+    (λ c κs. search needs)
     returns
-    string-at-requires
-    enum-known-query
+    (λ c κs. search needs)
+    (λ c. search needs)
     enum-told
-    invalid-requires
+    (λ c κs. search needs)
     returns-2
     add-parameters
-    entries-at-requires
-    enum-told-2
-    enum-told-3
-    invalid-requires-2
+    (λ c κs. search needs)
+    (λ c. search needs)
+    (λ c. search needs)
+    (λ c κs. search needs)
     returns-3
-    skip-requires
-    enum-known-extra
-    enum-told-4
-    invalid-requires-3
+    (λ c κs. search needs)
+    (λ c. search needs)
+    (λ c. search needs)
+    (λ c κs. search needs)
     returns-4
-    entries-at-requires-2
-    enum-known-first
-    enum-told-5
-    invalid-requires-4
+    (λ c κs. search needs)
+    (λ c. search needs)
+    (λ c. search needs)
+    (λ c κs. search needs)
     returns-5
-    find-requires
-    transaction-requires
-    enum-known-given
-    enum-known-fault
+    (λ c κs. search needs)
+    (λ c κs. search needs)
+    (λ c. search needs)
+    (λ c. search needs)
     returns-6
     returns-7)

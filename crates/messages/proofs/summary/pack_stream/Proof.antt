@@ -10,36 +10,15 @@ use borrow.Author.Needs.{needs}
 use Rattle.messages.proofs.summary.pack_stream.Statement.{statement}
 use Rattle.messages.proofs.summary.pack_stream.Tie as tie
 
-stream-length-requires : tie.Need-stream-length-requires
-stream-length-requires c κs = search needs
-
-in-bounds-requires : tie.Need-in-bounds-requires
-in-bounds-requires c κs = search needs
-
 returns : tie.Need-returns
 returns c =
     let a = c .before .before .before .before .args in
     no-room (a .out .now) (a .at) (result (packSummary (S.Stream (a .number)))) (packSummary (S.Stream (a .number))) _ _ refl (c .before .before .stream-length .ensures) (c .before .in-bounds .ensures) (c .if1 .taken)
 
-slice-aggregate-copy : tie.Need-slice-aggregate-copy
-slice-aggregate-copy c = search needs
-
-copy-requires : tie.Need-copy-requires
-copy-requires c κs = search needs
-
-cast-pack-integer : tie.Need-cast-pack-integer
-cast-pack-integer c = search needs
-
 add-pack-integer : tie.Need-add-pack-integer
 add-pack-integer c =
     let o = c .before .before .before .before .before .before in let a = o .before .before .before .before .args in
     omega (arith, stream-room (a .number) (a .out .now) (a .at) _ _ (o .before .before .stream-length .ensures) (o .before .in-bounds .ensures) (o .if1 .left), o .before .before .before .before .good)
-
-pack-integer-requires : tie.Need-pack-integer-requires
-pack-integer-requires c κs = search needs
-
-same-length : tie.Need-same-length
-same-length c = search needs
 
 returns-2 : tie.Need-returns-2
 returns-2 c =
@@ -51,13 +30,13 @@ pub pack-stream-spec : {M : Type 1} → statement M
 pack-stream-spec =
     tie.close
     (tie.spec
-    stream-length-requires
-    in-bounds-requires
+    (λ c κs. search needs)
+    (λ c κs. search needs)
     returns
-    slice-aggregate-copy
-    copy-requires
-    cast-pack-integer
+    (λ c. search needs)
+    (λ c κs. search needs)
+    (λ c. search needs)
     add-pack-integer
-    pack-integer-requires
-    same-length
+    (λ c κs. search needs)
+    (λ c. search needs)
     returns-2)

@@ -9,24 +9,6 @@ use Rattle.messages.proofs.summary.summary_length.Tie as tie
 enum-told : tie.Need-enum-told
 enum-told c = search needs
 
-enum-told-2 : tie.Need-enum-told-2
-enum-told-2 c = search needs
-
-enum-told-3 : tie.Need-enum-told-3
-enum-told-3 c = search needs
-
-enum-known-summary : tie.Need-enum-known-summary
-enum-known-summary c = search needs
-
-stream-length-requires : tie.Need-stream-length-requires
-stream-length-requires c κs = search needs
-
-enum-known-summary-2 : tie.Need-enum-known-summary-2
-enum-known-summary-2 c = search needs
-
-failure-length-requires : tie.Need-failure-length-requires
-failure-length-requires c κs = search needs
-
 returns : tie.Need-returns
 returns c = rw (c .enum-told .given .1) (ap length ignored-form)
 
@@ -47,12 +29,12 @@ summary-length-spec =
     tie.close
     (tie.spec
     enum-told
-    enum-told-2
-    enum-told-3
-    enum-known-summary
-    stream-length-requires
-    enum-known-summary-2
-    failure-length-requires
+    (λ c. search needs)
+    (λ c. search needs)
+    (λ c. search needs)
+    (λ c κs. search needs)
+    (λ c. search needs)
+    (λ c κs. search needs)
     returns
     returns-2
     returns-3

@@ -1,5 +1,5 @@
 -- `messages::view::entry_at` meets its contract. Assumes nothing.
-use mathlib.Core.Path.{_≡_, ap}
+use mathlib.Core.Path.{ap}
 use borrow.Author.Needs.{needs}
 use Rattle.messages.specs.declared.view.View.{View}
 use Rattle.messages.proofs.view.entry_at.Statement.{statement}

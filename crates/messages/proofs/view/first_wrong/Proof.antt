@@ -1,6 +1,6 @@
 -- `messages::view::first_wrong` meets its contract. The loop's invariant: the items from the i-th on decide. Assumes nothing.
-use mathlib.Core.Path.{_≡_, refl, sym, _∙_}
-use Prim.Native.Nat.{_≤_, _-_, _+_}
+use mathlib.Core.Path.{sym, _∙_}
+use Prim.Native.Nat.{_≤_, _-_}
 use native.Mathlib.Numerals.{unary-clauses}
 use native.Mathlib.Omega.{arith}
 use borrow.Author.Needs.{needs}
@@ -21,9 +21,6 @@ loop-holds c = (omega arith, simp unary-clauses)
 string-at-requires : tie.Need-string-at-requires Inv-loop μ-loop
 string-at-requires c κs = tt
 
-enum-known-span : tie.Need-enum-known-span Inv-loop μ-loop
-enum-known-span c = search needs
-
 enum-told : tie.Need-enum-told Inv-loop μ-loop
 enum-told c = search needs
 
@@ -35,12 +32,6 @@ returns c = let a = c .before .before .before .before .before .before .args in l
 add-at : tie.Need-add-at Inv-loop μ-loop
 add-at c = let a = c .before .before .before .before .before .before .before .before .args in
     let w = string-within (a .message .now) _ _ (sym (c .before .before .span .given .1) ∙ c .before .before .before .before .string-at .ensures) in omega (arith, w .inside)
-
-add-i : tie.Need-add-i Inv-loop μ-loop
-add-i c = omega arith
-
-loop-less : tie.Need-loop-less Inv-loop μ-loop
-loop-less c = omega arith
 
 loop-again : tie.Need-loop-again Inv-loop μ-loop
 loop-again c = let a = c .before .before .before .before .before .before .before .before .args in let l = c .before .before .before .before .before .before .loop in (
@@ -61,11 +52,11 @@ first-wrong-spec =
     μ-loop
     loop-holds
     string-at-requires
-    enum-known-span
+    (λ c. search needs)
     enum-told
     returns
     add-at
-    add-i
-    loop-less
+    (λ c. omega arith)
+    (λ c. omega arith)
     loop-again
     returns-2)

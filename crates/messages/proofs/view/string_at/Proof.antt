@@ -6,24 +6,12 @@ use Rattle.messages.proofs.Peeking.{text-at, leaf-text}
 use Rattle.messages.proofs.view.string_at.Statement.{statement}
 use Rattle.messages.proofs.view.string_at.Tie as tie
 
-extent-at-requires : tie.Need-extent-at-requires
-extent-at-requires c κs = search needs
-
-enum-known-extent : tie.Need-enum-known-extent
-enum-known-extent c = search needs
-
-is-string-requires : tie.Need-is-string-requires
-is-string-requires c κs = search needs
-
 returns : tie.Need-returns
 returns c = let p = c .before .before .before in
     leaf-text _ _ _ _ _ true (sym (p .extent .given .1) ∙ p .before .before .extent-at .ensures) (sym (c .if1 .taken) ∙ c .before .is-string .ensures)
 
 enum-told : tie.Need-enum-told
 enum-told c = search needs
-
-enum-told-2 : tie.Need-enum-told-2
-enum-told-2 c = search needs
 
 returns-2 : tie.Need-returns-2
 returns-2 c = let p = c .before .before .before in
@@ -39,12 +27,12 @@ pub string-at-spec : {M : Type 1} → statement M
 string-at-spec =
     tie.close
     (tie.spec
-    extent-at-requires
-    enum-known-extent
-    is-string-requires
+    (λ c κs. search needs)
+    (λ c. search needs)
+    (λ c κs. search needs)
     returns
     enum-told
-    enum-told-2
+    (λ c. search needs)
     returns-2
     returns-3
     returns-4)

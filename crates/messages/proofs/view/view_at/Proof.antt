@@ -18,9 +18,6 @@ use Rattle.messages.proofs.view.view_at.Tie as tie
 returns : tie.Need-returns
 returns c = rw (eq-eqb _ _ (c .if1 .taken))
 
-peek-requires : tie.Need-peek-requires
-peek-requires c κs = search needs
-
 -- what is found, once its head is known
 found : (d : tie.After-head) → P.Value (d .head .given .0 .0) ≡ peekAt (d .before .before .before .before .before .args .message .now) (d .before .before .before .before .before .args .place)
 found d = sym (d .head .given .1) ∙ d .before .before .peek .ensures
@@ -29,36 +26,15 @@ here : (d : tie.After-head) (v : View) → v ≡ viewHead (d .before .before .be
     → v ≡ viewAt (d .before .before .before .before .before .args .message .now) (d .before .before .before .before .before .args .place)
 here d v e = view-is _ _ (d .head .given .0 .0) v (d .before .before .before .if1 .left) (found d) e
 
-enum-known-head : tie.Need-enum-known-head
-enum-known-head c = search needs
-
 enum-told : tie.Need-enum-told
 enum-told c = search needs
 
 returns-2 : tie.Need-returns-2
 returns-2 c = rw (ne-eqb _ _ (c .before .before .before .if1 .left), ← sym (c .enum-told .given .1) ∙ c .before .before .peek .ensures)
 
-enum-told-2 : tie.Need-enum-told-2
-enum-told-2 c = search needs
-
-enum-known-head-2 : tie.Need-enum-known-head-2
-enum-known-head-2 c = search needs
-
 mode-named-requires : tie.Need-mode-named-requires
 mode-named-requires c κs = let d = c .before .before .before .before in
     string-within _ _ _ (ap stringFound (ap P.Value (sym (c .before .head2 .given .1)) ∙ found d)) .inside
-
-enum-known-head-3 : tie.Need-enum-known-head-3
-enum-known-head-3 c = search needs
-
-enum-known-head-4 : tie.Need-enum-known-head-4
-enum-known-head-4 c = search needs
-
-first-wrong-requires : tie.Need-first-wrong-requires
-first-wrong-requires c κs = search needs
-
-enum-told-3 : tie.Need-enum-told-3
-enum-told-3 c = search needs
 
 returns-3 : tie.Need-returns-3
 returns-3 c = here (c .before .before .before) _ (ap (viewHead _) (sym (c .enum-told2 .given .1)))
@@ -85,17 +61,17 @@ view-at-spec =
     tie.close
     (tie.spec
     returns
-    peek-requires
-    enum-known-head
+    (λ c κs. search needs)
+    (λ c. search needs)
     enum-told
     returns-2
-    enum-told-2
-    enum-known-head-2
+    (λ c. search needs)
+    (λ c. search needs)
     mode-named-requires
-    enum-known-head-3
-    enum-known-head-4
-    first-wrong-requires
-    enum-told-3
+    (λ c. search needs)
+    (λ c. search needs)
+    (λ c κs. search needs)
+    (λ c. search needs)
     returns-3
     returns-4
     returns-5

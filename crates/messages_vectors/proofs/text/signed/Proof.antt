@@ -6,12 +6,6 @@ use Rattle.numbers.proofs.I64.{negated, kept, mag-fits}
 use Rattle.messages_vectors.proofs.text.signed.Statement.{statement}
 use Rattle.messages_vectors.proofs.text.signed.Tie as tie
 
-slice-aggregate-say : tie.Need-slice-aggregate-say
-slice-aggregate-say c = search needs
-
-say-requires : tie.Need-say-requires
-say-requires c κs = search needs
-
 sub-number : tie.Need-sub-number
 sub-number c =
     let t = c .before .before in
@@ -30,19 +24,10 @@ add-number c =
     let r = t .before in
     rw (negated (r .args .n) (r .fits .n) (t .if1 .taken), toZ-ofZ (mag-fits (r .args .n) (r .fits .n))) (omega (arith, r .fits .n .sfits))
 
-number-requires : tie.Need-number-requires
-number-requires c κs = search needs
-
-returns : tie.Need-returns
-returns c = search needs
-
 cast-number-2 : tie.Need-cast-number-2
 cast-number-2 c =
     let r = c .before in
     rw (kept (r .args .n) (r .fits .n) (c .if1 .left)) (tt, omega (arith, r .fits .n .sfits))
-
-number-requires-2 : tie.Need-number-requires-2
-number-requires-2 c κs = search needs
 
 returns-2 : tie.Need-returns-2
 returns-2 c = search needs
@@ -51,13 +36,13 @@ pub signed-spec : {M : Type 1} → statement M
 signed-spec =
     tie.close
     (tie.spec
-    slice-aggregate-say
-    say-requires
+    (λ c. search needs)
+    (λ c κs. search needs)
     sub-number
     cast-number
     add-number
-    number-requires
-    returns
+    (λ c κs. search needs)
+    (λ c. search needs)
     cast-number-2
-    number-requires-2
+    (λ c κs. search needs)
     returns-2)

@@ -12,24 +12,12 @@ use Rattle.meulhaton.proofs.Choices.{chosen, other, fails, passes}
 use Rattle.meulhaton.proofs.calls.arriving.Statement.{statement}
 use Rattle.meulhaton.proofs.calls.arriving.Tie as tie
 
-names-requires : tie.Need-names-requires
-names-requires c κs = search needs
-
-refuse-requires : tie.Need-refuse-requires
-refuse-requires c κs = search needs
-
 returns : tie.Need-returns
 unfolding arriveOn
 returns c =
     let i = c .before .before .before .args .image in
     let r = c .before .before .before .args .request in
     c .refuse .ensures ∙ other (names i && isRequest r) (afterCall i (arriveOf (recordOf i) (requestOf r))) (broken i) (sym (fails (names i) (isRequest r) (sym (c .before .before .names .ensures) ∙ not-true _ (c .before .if1 .taken))))
-
-is-request-requires : tie.Need-is-request-requires
-is-request-requires c κs = search needs
-
-refuse-requires-2 : tie.Need-refuse-requires-2
-refuse-requires-2 c κs = search needs
 
 returns-2 : tie.Need-returns-2
 unfolding arriveOn
@@ -38,18 +26,6 @@ returns-2 c =
     let r = c .before .before .before .before .before .args .request in
     c .refuse2 .ensures
     ∙ other (names i && isRequest r) (afterCall i (arriveOf (recordOf i) (requestOf r))) (broken i) (sym (passes (names i) (isRequest r) (sym (c .before .before .before .before .names .ensures) ∙ not-false _ (c .before .before .before .if1 .left)) (sym (sym (c .before .before .is-request .ensures) ∙ not-true _ (c .before .if2 .taken)))))
-
-record-of-requires : tie.Need-record-of-requires
-record-of-requires c κs = search needs
-
-request-of-requires : tie.Need-request-of-requires
-request-of-requires c κs = search needs
-
-arrive-requires : tie.Need-arrive-requires
-arrive-requires c κs = search needs
-
-arrived-requires : tie.Need-arrived-requires
-arrived-requires c κs = search needs
 
 returns-3 : tie.Need-returns-3
 unfolding arriveOn
@@ -63,14 +39,14 @@ pub arriving-spec : {M : Type 1} → statement M
 arriving-spec =
     tie.close
     (tie.spec
-    names-requires
-    refuse-requires
+    (λ c κs. search needs)
+    (λ c κs. search needs)
     returns
-    is-request-requires
-    refuse-requires-2
+    (λ c κs. search needs)
+    (λ c κs. search needs)
     returns-2
-    record-of-requires
-    request-of-requires
-    arrive-requires
-    arrived-requires
+    (λ c κs. search needs)
+    (λ c κs. search needs)
+    (λ c κs. search needs)
+    (λ c κs. search needs)
     returns-3)

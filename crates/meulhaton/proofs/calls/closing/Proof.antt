@@ -10,26 +10,11 @@ use Rattle.meulhaton.proofs.Choices.{chosen, other}
 use Rattle.meulhaton.proofs.calls.closing.Statement.{statement}
 use Rattle.meulhaton.proofs.calls.closing.Tie as tie
 
-names-requires : tie.Need-names-requires
-names-requires c κs = search needs
-
-refuse-requires : tie.Need-refuse-requires
-refuse-requires c κs = search needs
-
 returns : tie.Need-returns
 unfolding closeOn
 returns c =
     let i = c .before .before .before .args .image in
     c .refuse .ensures ∙ other (names i) (afterCall i (closeOf (recordOf i))) (broken i) (sym (c .before .before .names .ensures) ∙ not-true _ (c .before .if1 .taken))
-
-record-of-requires : tie.Need-record-of-requires
-record-of-requires c κs = search needs
-
-close-requires : tie.Need-close-requires
-close-requires c κs = search needs
-
-closed-requires : tie.Need-closed-requires
-closed-requires c κs = search needs
 
 returns-2 : tie.Need-returns-2
 unfolding closeOn
@@ -42,10 +27,10 @@ pub closing-spec : {M : Type 1} → statement M
 closing-spec =
     tie.close
     (tie.spec
-    names-requires
-    refuse-requires
+    (λ c κs. search needs)
+    (λ c κs. search needs)
     returns
-    record-of-requires
-    close-requires
-    closed-requires
+    (λ c κs. search needs)
+    (λ c κs. search needs)
+    (λ c κs. search needs)
     returns-2)

@@ -12,21 +12,12 @@ use Rattle.meulhaton.proofs.Choices.{chosen, other, fails, passes}
 use Rattle.meulhaton.proofs.calls.reporting.Statement.{statement}
 use Rattle.meulhaton.proofs.calls.reporting.Tie as tie
 
-names-requires : tie.Need-names-requires
-names-requires c κs = search needs
-
-refuse-requires : tie.Need-refuse-requires
-refuse-requires c κs = search needs
-
 returns : tie.Need-returns
 unfolding reportOn
 returns c =
     let i = c .before .before .before .args .image in
     let r = c .before .before .before .args .outcome in
     c .refuse .ensures ∙ other (names i && isOutcome r) (afterCall i (reportOf (recordOf i) (outcomeOf (r .number)))) (broken i) (sym (fails (names i) (isOutcome r) (sym (c .before .before .names .ensures) ∙ not-true _ (c .before .if1 .taken))))
-
-refuse-requires-2 : tie.Need-refuse-requires-2
-refuse-requires-2 c κs = search needs
 
 returns-2 : tie.Need-returns-2
 unfolding reportOn
@@ -35,18 +26,6 @@ returns-2 c =
     let r = c .before .before .before .before .before .args .outcome in
     c .refuse2 .ensures
     ∙ other (names i && isOutcome r) (afterCall i (reportOf (recordOf i) (outcomeOf (r .number)))) (broken i) (sym (passes (names i) (isOutcome r) (sym (c .before .before .before .before .names .ensures) ∙ not-false _ (c .before .before .before .if1 .left)) (sym (lt-leb _ _ (c .before .if2 .taken)))))
-
-record-of-requires : tie.Need-record-of-requires
-record-of-requires c κs = search needs
-
-outcome-of-requires : tie.Need-outcome-of-requires
-outcome-of-requires c κs = search needs
-
-report-requires : tie.Need-report-requires
-report-requires c κs = search needs
-
-reported-requires : tie.Need-reported-requires
-reported-requires c κs = search needs
 
 returns-3 : tie.Need-returns-3
 unfolding reportOn
@@ -60,13 +39,13 @@ pub reporting-spec : {M : Type 1} → statement M
 reporting-spec =
     tie.close
     (tie.spec
-    names-requires
-    refuse-requires
+    (λ c κs. search needs)
+    (λ c κs. search needs)
     returns
-    refuse-requires-2
+    (λ c κs. search needs)
     returns-2
-    record-of-requires
-    outcome-of-requires
-    report-requires
-    reported-requires
+    (λ c κs. search needs)
+    (λ c κs. search needs)
+    (λ c κs. search needs)
+    (λ c κs. search needs)
     returns-3)

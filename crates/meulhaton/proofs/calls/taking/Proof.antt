@@ -10,26 +10,11 @@ use Rattle.meulhaton.proofs.Choices.{chosen, other}
 use Rattle.meulhaton.proofs.calls.taking.Statement.{statement}
 use Rattle.meulhaton.proofs.calls.taking.Tie as tie
 
-names-requires : tie.Need-names-requires
-names-requires c κs = search needs
-
-refuse-requires : tie.Need-refuse-requires
-refuse-requires c κs = search needs
-
 returns : tie.Need-returns
 unfolding takeOn
 returns c =
     let i = c .before .before .before .args .image in
     c .refuse .ensures ∙ other (names i) (afterCall i (takeOf (recordOf i))) (broken i) (sym (c .before .before .names .ensures) ∙ not-true _ (c .before .if1 .taken))
-
-record-of-requires : tie.Need-record-of-requires
-record-of-requires c κs = search needs
-
-take-requires : tie.Need-take-requires
-take-requires c κs = search needs
-
-taken-requires : tie.Need-taken-requires
-taken-requires c κs = search needs
 
 returns-2 : tie.Need-returns-2
 unfolding takeOn
@@ -42,10 +27,10 @@ pub taking-spec : {M : Type 1} → statement M
 taking-spec =
     tie.close
     (tie.spec
-    names-requires
-    refuse-requires
+    (λ c κs. search needs)
+    (λ c κs. search needs)
     returns
-    record-of-requires
-    take-requires
-    taken-requires
+    (λ c κs. search needs)
+    (λ c κs. search needs)
+    (λ c κs. search needs)
     returns-2)

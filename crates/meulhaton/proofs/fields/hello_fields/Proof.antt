@@ -3,27 +3,6 @@ use borrow.Author.Needs.{needs}
 use Rattle.meulhaton.proofs.fields.hello_fields.Statement.{statement}
 use Rattle.meulhaton.proofs.fields.hello_fields.Tie as tie
 
-span-image-requires : tie.Need-span-image-requires
-span-image-requires c κs = search needs
-
-text-image-requires : tie.Need-text-image-requires
-text-image-requires c κs = search needs
-
-text-image-requires-2 : tie.Need-text-image-requires-2
-text-image-requires-2 c κs = search needs
-
-text-image-requires-3 : tie.Need-text-image-requires-3
-text-image-requires-3 c κs = search needs
-
-place-image-requires : tie.Need-place-image-requires
-place-image-requires c κs = search needs
-
-no-run-requires : tie.Need-no-run-requires
-no-run-requires c κs = search needs
-
-no-transaction-requires : tie.Need-no-transaction-requires
-no-transaction-requires c κs = search needs
-
 returns : tie.Need-returns
 returns c =
     λ j. record {
@@ -42,11 +21,11 @@ pub hello-fields-spec : {M : Type 1} → statement M
 hello-fields-spec =
     tie.close
     (tie.spec
-    span-image-requires
-    text-image-requires
-    text-image-requires-2
-    text-image-requires-3
-    place-image-requires
-    no-run-requires
-    no-transaction-requires
+    (λ c κs. search needs)
+    (λ c κs. search needs)
+    (λ c κs. search needs)
+    (λ c κs. search needs)
+    (λ c κs. search needs)
+    (λ c κs. search needs)
+    (λ c κs. search needs)
     returns)

@@ -3,18 +3,6 @@ use borrow.Author.Needs.{needs}
 use Rattle.meulhaton.proofs.fields.no_transaction.Statement.{statement}
 use Rattle.meulhaton.proofs.fields.no_transaction.Tie as tie
 
-place-image-requires : tie.Need-place-image-requires
-place-image-requires c κs = search needs
-
-number-image-requires : tie.Need-number-image-requires
-number-image-requires c κs = search needs
-
-place-image-requires-2 : tie.Need-place-image-requires-2
-place-image-requires-2 c κs = search needs
-
-text-image-requires : tie.Need-text-image-requires
-text-image-requires c κs = search needs
-
 returns : tie.Need-returns
 returns c =
     λ j. record {
@@ -29,8 +17,8 @@ pub no-transaction-spec : {M : Type 1} → statement M
 no-transaction-spec =
     tie.close
     (tie.spec
-    place-image-requires
-    number-image-requires
-    place-image-requires-2
-    text-image-requires
+    (λ c κs. search needs)
+    (λ c κs. search needs)
+    (λ c κs. search needs)
+    (λ c κs. search needs)
     returns)

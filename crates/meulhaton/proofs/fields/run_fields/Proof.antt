@@ -3,18 +3,6 @@ use borrow.Author.Needs.{needs}
 use Rattle.meulhaton.proofs.fields.run_fields.Statement.{statement}
 use Rattle.meulhaton.proofs.fields.run_fields.Tie as tie
 
-span-image-requires : tie.Need-span-image-requires
-span-image-requires c κs = search needs
-
-placed-requires : tie.Need-placed-requires
-placed-requires c κs = search needs
-
-no-hello-requires : tie.Need-no-hello-requires
-no-hello-requires c κs = search needs
-
-transaction-image-requires : tie.Need-transaction-image-requires
-transaction-image-requires c κs = search needs
-
 returns : tie.Need-returns
 returns c =
     λ j. record {
@@ -27,8 +15,8 @@ pub run-fields-spec : {M : Type 1} → statement M
 run-fields-spec =
     tie.close
     (tie.spec
-    span-image-requires
-    placed-requires
-    no-hello-requires
-    transaction-image-requires
+    (λ c κs. search needs)
+    (λ c κs. search needs)
+    (λ c κs. search needs)
+    (λ c κs. search needs)
     returns)

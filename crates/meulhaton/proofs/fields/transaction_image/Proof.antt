@@ -3,21 +3,6 @@ use borrow.Author.Needs.{needs}
 use Rattle.meulhaton.proofs.fields.transaction_image.Statement.{statement}
 use Rattle.meulhaton.proofs.fields.transaction_image.Tie as tie
 
-place-image-requires : tie.Need-place-image-requires
-place-image-requires c κs = search needs
-
-number-image-requires : tie.Need-number-image-requires
-number-image-requires c κs = search needs
-
-place-image-requires-2 : tie.Need-place-image-requires-2
-place-image-requires-2 c κs = search needs
-
-mode-number-requires : tie.Need-mode-number-requires
-mode-number-requires c κs = search needs
-
-text-image-requires : tie.Need-text-image-requires
-text-image-requires c κs = search needs
-
 returns : tie.Need-returns
 returns c =
     λ j. record {
@@ -32,9 +17,9 @@ pub transaction-image-spec : {M : Type 1} → statement M
 transaction-image-spec =
     tie.close
     (tie.spec
-    place-image-requires
-    number-image-requires
-    place-image-requires-2
-    mode-number-requires
-    text-image-requires
+    (λ c κs. search needs)
+    (λ c κs. search needs)
+    (λ c κs. search needs)
+    (λ c κs. search needs)
+    (λ c κs. search needs)
     returns)

@@ -20,27 +20,12 @@ abbrev μ-loop : tie.MeasureT-loop
 loop-holds : tie.Need-loop-holds Inv-loop μ-loop
 loop-holds c = refl
 
-mul-request : tie.Need-mul-request Inv-loop μ-loop
-mul-request c = search needs
-
-array-copy-out-request : tie.Need-array-copy-out-request Inv-loop μ-loop
-array-copy-out-request c = search needs
-
-is-request-requires : tie.Need-is-request-requires Inv-loop μ-loop
-is-request-requires c κs = search needs
-
 returns : tie.Need-returns Inv-loop μ-loop
 returns c =
     let a = c .before .before .before .before .before in
     let l = c .before .before .before .before .loop in
     let long : length (a .args .t1) ≡ 32 = search needs in
     sym (l .inv ∙ found unnamed (a .args .t1) (a .args .count) (omega (arith, a .pre)) (l .i) (bare 0) (c .before .before .before .loop-test .taken) (sym (ap not (c .before .is-request .ensures)) ∙ c .if1 .taken))
-
-add-i : tie.Need-add-i Inv-loop μ-loop
-add-i c = search needs
-
-loop-less : tie.Need-loop-less Inv-loop μ-loop
-loop-less c = search needs
 
 loop-again : tie.Need-loop-again Inv-loop μ-loop
 loop-again c =
@@ -63,11 +48,11 @@ has-unnamed-spec =
     Inv-loop
     μ-loop
     loop-holds
-    mul-request
-    array-copy-out-request
-    is-request-requires
+    (λ c. search needs)
+    (λ c. search needs)
+    (λ c κs. search needs)
     returns
-    add-i
-    loop-less
+    (λ c. search needs)
+    (λ c. search needs)
     loop-again
     returns-2)

@@ -23,27 +23,6 @@ abbrev μ-loop : tie.MeasureT-loop
 loop-holds : tie.Need-loop-holds Inv-loop μ-loop
 loop-holds c = (omega arith, refl)
 
-mul-slot : tie.Need-mul-slot Inv-loop μ-loop
-mul-slot c = search needs
-
-array-copy-out-slot : tie.Need-array-copy-out-slot Inv-loop μ-loop
-array-copy-out-slot c = search needs
-
-slot-image-requires : tie.Need-slot-image-requires Inv-loop μ-loop
-slot-image-requires c κs = search needs
-
-mul-requests : tie.Need-mul-requests Inv-loop μ-loop
-mul-requests c = search needs
-
-array-set-from-requests : tie.Need-array-set-from-requests Inv-loop μ-loop
-array-set-from-requests c = search needs
-
-add-i : tie.Need-add-i Inv-loop μ-loop
-add-i c = search needs
-
-loop-less : tie.Need-loop-less Inv-loop μ-loop
-loop-less c = search needs
-
 loop-again : tie.Need-loop-again Inv-loop μ-loop
 loop-again c =
     let w = c .before .before .before .before .args .t1 in
@@ -68,12 +47,12 @@ slot-images-spec =
     Inv-loop
     μ-loop
     loop-holds
-    mul-slot
-    array-copy-out-slot
-    slot-image-requires
-    mul-requests
-    array-set-from-requests
-    add-i
-    loop-less
+    (λ c. search needs)
+    (λ c. search needs)
+    (λ c κs. search needs)
+    (λ c. search needs)
+    (λ c. search needs)
+    (λ c. search needs)
+    (λ c. search needs)
     loop-again
     returns)

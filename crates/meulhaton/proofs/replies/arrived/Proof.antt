@@ -12,27 +12,6 @@ use Rattle.meulhaton.proofs.replies.arrived.Tie as tie
 enum-told : tie.Need-enum-told
 enum-told c = search needs
 
-saying-requires : tie.Need-saying-requires
-saying-requires c κs = search needs
-
-done-requires : tie.Need-done-requires
-done-requires c κs = search needs
-
-enum-told-2 : tie.Need-enum-told-2
-enum-told-2 c = search needs
-
-saying-requires-2 : tie.Need-saying-requires-2
-saying-requires-2 c κs = search needs
-
-done-requires-2 : tie.Need-done-requires-2
-done-requires-2 c κs = search needs
-
-enum-known-answer : tie.Need-enum-known-answer
-enum-known-answer c = search needs
-
-refuse-requires : tie.Need-refuse-requires
-refuse-requires c κs = search needs
-
 returns : tie.Need-returns
 returns c =
     let a = c .before .before .before .before .before .args in
@@ -55,13 +34,13 @@ arrived-spec =
     tie.close
     (tie.spec
     enum-told
-    saying-requires
-    done-requires
-    enum-told-2
-    saying-requires-2
-    done-requires-2
-    enum-known-answer
-    refuse-requires
+    (λ c κs. search needs)
+    (λ c κs. search needs)
+    (λ c. search needs)
+    (λ c κs. search needs)
+    (λ c κs. search needs)
+    (λ c. search needs)
+    (λ c κs. search needs)
     returns
     returns-2
     returns-3)

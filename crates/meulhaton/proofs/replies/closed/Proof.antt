@@ -12,18 +12,6 @@ use Rattle.meulhaton.proofs.replies.closed.Tie as tie
 enum-told : tie.Need-enum-told
 enum-told c = search needs
 
-saying-requires : tie.Need-saying-requires
-saying-requires c κs = search needs
-
-done-requires : tie.Need-done-requires
-done-requires c κs = search needs
-
-enum-known-answer : tie.Need-enum-known-answer
-enum-known-answer c = search needs
-
-refuse-requires : tie.Need-refuse-requires
-refuse-requires c κs = search needs
-
 returns : tie.Need-returns
 returns c =
     let a = c .before .before .before .before .before .args in
@@ -40,9 +28,9 @@ closed-spec =
     tie.close
     (tie.spec
     enum-told
-    saying-requires
-    done-requires
-    enum-known-answer
-    refuse-requires
+    (λ c κs. search needs)
+    (λ c κs. search needs)
+    (λ c. search needs)
+    (λ c κs. search needs)
     returns
     returns-2)

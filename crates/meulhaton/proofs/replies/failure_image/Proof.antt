@@ -10,21 +10,6 @@ use Rattle.meulhaton.proofs.replies.failure_image.Tie as tie
 enum-told : tie.Need-enum-told
 enum-told c = search needs
 
-summary-numbers-requires : tie.Need-summary-numbers-requires
-summary-numbers-requires c κs = search needs
-
-enum-told-2 : tie.Need-enum-told-2
-enum-told-2 c = search needs
-
-summary-numbers-requires-2 : tie.Need-summary-numbers-requires-2
-summary-numbers-requires-2 c κs = search needs
-
-enum-told-3 : tie.Need-enum-told-3
-enum-told-3 c = search needs
-
-summary-numbers-requires-3 : tie.Need-summary-numbers-requires-3
-summary-numbers-requires-3 c κs = search needs
-
 returns : tie.Need-returns
 returns c = c .summary-numbers .ensures ∙ ap (λ (f : Failure). summaryImage (S.Failure f)) (sym (c .before .enum-told .given .1))
 
@@ -39,11 +24,11 @@ failure-image-spec =
     tie.close
     (tie.spec
     enum-told
-    summary-numbers-requires
-    enum-told-2
-    summary-numbers-requires-2
-    enum-told-3
-    summary-numbers-requires-3
+    (λ c κs. search needs)
+    (λ c. search needs)
+    (λ c κs. search needs)
+    (λ c. search needs)
+    (λ c κs. search needs)
     returns
     returns-2
     returns-3)

@@ -9,21 +9,6 @@ use Rattle.connection.specs.declared.answers.Reported.{Reported}
 use Rattle.meulhaton.proofs.replies.reported.Statement.{statement}
 use Rattle.meulhaton.proofs.replies.reported.Tie as tie
 
-enum-known-answer : tie.Need-enum-known-answer
-enum-known-answer c = search needs
-
-answering-requires : tie.Need-answering-requires
-answering-requires c κs = search needs
-
-done-requires : tie.Need-done-requires
-done-requires c κs = search needs
-
-enum-known-answer-2 : tie.Need-enum-known-answer-2
-enum-known-answer-2 c = search needs
-
-refuse-requires : tie.Need-refuse-requires
-refuse-requires c κs = search needs
-
 returns : tie.Need-returns
 returns c =
     let a = c .before .before .before .before .before .before .args in
@@ -40,10 +25,10 @@ pub reported-spec : {M : Type 1} → statement M
 reported-spec =
     tie.close
     (tie.spec
-    enum-known-answer
-    answering-requires
-    done-requires
-    enum-known-answer-2
-    refuse-requires
+    (λ c. search needs)
+    (λ c κs. search needs)
+    (λ c κs. search needs)
+    (λ c. search needs)
+    (λ c κs. search needs)
     returns
     returns-2)

@@ -9,36 +9,6 @@ use Rattle.meulhaton.proofs.replies.summary_image.Tie as tie
 enum-told : tie.Need-enum-told
 enum-told c = search needs
 
-summary-numbers-requires : tie.Need-summary-numbers-requires
-summary-numbers-requires c κs = search needs
-
-enum-told-2 : tie.Need-enum-told-2
-enum-told-2 c = search needs
-
-summary-numbers-requires-2 : tie.Need-summary-numbers-requires-2
-summary-numbers-requires-2 c κs = search needs
-
-enum-known-summary : tie.Need-enum-known-summary
-enum-known-summary c = search needs
-
-cast-summary-numbers : tie.Need-cast-summary-numbers
-cast-summary-numbers c = search needs
-
-summary-numbers-requires-3 : tie.Need-summary-numbers-requires-3
-summary-numbers-requires-3 c κs = search needs
-
-enum-known-summary-2 : tie.Need-enum-known-summary-2
-enum-known-summary-2 c = search needs
-
-summary-numbers-requires-4 : tie.Need-summary-numbers-requires-4
-summary-numbers-requires-4 c κs = search needs
-
-enum-known-summary-3 : tie.Need-enum-known-summary-3
-enum-known-summary-3 c = search needs
-
-failure-image-requires : tie.Need-failure-image-requires
-failure-image-requires c κs = search needs
-
 returns : tie.Need-returns
 returns c = c .summary-numbers .ensures ∙ ap summaryImage (sym (c .before .enum-told .given .1))
 
@@ -61,16 +31,16 @@ summary-image-spec =
     tie.close
     (tie.spec
     enum-told
-    summary-numbers-requires
-    enum-told-2
-    summary-numbers-requires-2
-    enum-known-summary
-    cast-summary-numbers
-    summary-numbers-requires-3
-    enum-known-summary-2
-    summary-numbers-requires-4
-    enum-known-summary-3
-    failure-image-requires
+    (λ c κs. search needs)
+    (λ c. search needs)
+    (λ c κs. search needs)
+    (λ c. search needs)
+    (λ c. search needs)
+    (λ c κs. search needs)
+    (λ c. search needs)
+    (λ c κs. search needs)
+    (λ c. search needs)
+    (λ c κs. search needs)
     returns
     returns-2
     returns-3

@@ -12,45 +12,6 @@ use Rattle.meulhaton.proofs.replies.taken.Tie as tie
 enum-told : tie.Need-enum-told
 enum-told c = search needs
 
-saying-requires : tie.Need-saying-requires
-saying-requires c κs = search needs
-
-done-requires : tie.Need-done-requires
-done-requires c κs = search needs
-
-enum-told-2 : tie.Need-enum-told-2
-enum-told-2 c = search needs
-
-saying-requires-2 : tie.Need-saying-requires-2
-saying-requires-2 c κs = search needs
-
-done-requires-2 : tie.Need-done-requires-2
-done-requires-2 c κs = search needs
-
-enum-known-answer : tie.Need-enum-known-answer
-enum-known-answer c = search needs
-
-handing-requires : tie.Need-handing-requires
-handing-requires c κs = search needs
-
-done-requires-3 : tie.Need-done-requires-3
-done-requires-3 c κs = search needs
-
-enum-known-answer-2 : tie.Need-enum-known-answer-2
-enum-known-answer-2 c = search needs
-
-answering-requires : tie.Need-answering-requires
-answering-requires c κs = search needs
-
-done-requires-4 : tie.Need-done-requires-4
-done-requires-4 c κs = search needs
-
-enum-known-answer-3 : tie.Need-enum-known-answer-3
-enum-known-answer-3 c = search needs
-
-refuse-requires : tie.Need-refuse-requires
-refuse-requires c κs = search needs
-
 returns : tie.Need-returns
 returns c =
     let a = c .before .before .before .before .before .args in
@@ -87,19 +48,19 @@ taken-spec =
     tie.close
     (tie.spec
     enum-told
-    saying-requires
-    done-requires
-    enum-told-2
-    saying-requires-2
-    done-requires-2
-    enum-known-answer
-    handing-requires
-    done-requires-3
-    enum-known-answer-2
-    answering-requires
-    done-requires-4
-    enum-known-answer-3
-    refuse-requires
+    (λ c κs. search needs)
+    (λ c κs. search needs)
+    (λ c. search needs)
+    (λ c κs. search needs)
+    (λ c κs. search needs)
+    (λ c. search needs)
+    (λ c κs. search needs)
+    (λ c κs. search needs)
+    (λ c. search needs)
+    (λ c κs. search needs)
+    (λ c κs. search needs)
+    (λ c. search needs)
+    (λ c κs. search needs)
     returns
     returns-2
     returns-3

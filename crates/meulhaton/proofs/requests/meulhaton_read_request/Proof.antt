@@ -11,23 +11,8 @@ use Rattle.meulhaton.proofs.Versions.{known, unknown}
 use Rattle.meulhaton.proofs.requests.meulhaton_read_request.Statement.{statement}
 use Rattle.meulhaton.proofs.requests.meulhaton_read_request.Tie as tie
 
-version-of-requires : tie.Need-version-of-requires
-version-of-requires c κs = search needs
-
-enum-known-proposal : tie.Need-enum-known-proposal
-enum-known-proposal c = search needs
-
-read-request-requires : tie.Need-read-request-requires
-read-request-requires c κs = search needs
-
-request-answer-requires : tie.Need-request-answer-requires
-request-answer-requires c κs = search needs
-
 enum-told : tie.Need-enum-told
 enum-told c = search needs
-
-refuse-requires : tie.Need-refuse-requires
-refuse-requires c κs = search needs
 
 returns : tie.Need-returns
 returns c =
@@ -47,11 +32,11 @@ pub meulhaton-read-request-spec : {M : Type 1} → statement M
 meulhaton-read-request-spec =
     tie.close
     (tie.spec
-    version-of-requires
-    enum-known-proposal
-    read-request-requires
-    request-answer-requires
+    (λ c κs. search needs)
+    (λ c. search needs)
+    (λ c κs. search needs)
+    (λ c κs. search needs)
     enum-told
-    refuse-requires
+    (λ c κs. search needs)
     returns
     returns-2)

@@ -8,24 +8,6 @@ use Rattle.meulhaton.specs.Image.{requestImage}
 use Rattle.meulhaton.proofs.requests.request_answer.Statement.{statement}
 use Rattle.meulhaton.proofs.requests.request_answer.Tie as tie
 
-enum-known-reading : tie.Need-enum-known-reading
-enum-known-reading c = search needs
-
-arrival-of-requires : tie.Need-arrival-of-requires
-arrival-of-requires c κs = search needs
-
-request-image-requires : tie.Need-request-image-requires
-request-image-requires c κs = search needs
-
-fields-of-requires : tie.Need-fields-of-requires
-fields-of-requires c κs = search needs
-
-enum-known-reading-2 : tie.Need-enum-known-reading-2
-enum-known-reading-2 c = search needs
-
-refuse-requires : tie.Need-refuse-requires
-refuse-requires c κs = search needs
-
 returns : tie.Need-returns
 returns c =
     let e = c .before .request-image .ensures ∙ ap requestImage (c .before .before .arrival-of .ensures) in
@@ -39,11 +21,11 @@ pub request-answer-spec : {M : Type 1} → statement M
 request-answer-spec =
     tie.close
     (tie.spec
-    enum-known-reading
-    arrival-of-requires
-    request-image-requires
-    fields-of-requires
-    enum-known-reading-2
-    refuse-requires
+    (λ c. search needs)
+    (λ c κs. search needs)
+    (λ c κs. search needs)
+    (λ c κs. search needs)
+    (λ c. search needs)
+    (λ c κs. search needs)
     returns
     returns-2)

@@ -14,12 +14,6 @@ use Rattle.meulhaton.proofs.Choices.{chosen, other}
 use Rattle.meulhaton.proofs.summaries.meulhaton_pack_summary.Statement.{statement}
 use Rattle.meulhaton.proofs.summaries.meulhaton_pack_summary.Tie as tie
 
-is-summary-requires : tie.Need-is-summary-requires
-is-summary-requires c κs = search needs
-
-packed-requires : tie.Need-packed-requires
-packed-requires c κs = search needs
-
 returns : tie.Need-returns
 unfolding summaryForm
 returns c =
@@ -29,18 +23,6 @@ returns c =
       c .packed .ensures ∙ ap (λ (f : Answer (List ℕ)). outputOf (telling (a .at) (fitted (a .out .now) (a .at) f))) k,
       ap (λ (f : Answer (List ℕ)). left (leaves (a .at)) (fitted (a .out .now) (a .at) f) (a .out .now)) k,
     )
-
-summary-of-requires : tie.Need-summary-of-requires
-summary-of-requires c κs = search needs
-
-pack-summary-requires : tie.Need-pack-summary-requires
-pack-summary-requires c κs = search needs
-
-packed-requires-2 : tie.Need-packed-requires-2
-packed-requires-2 c κs = search needs
-
-same-length : tie.Need-same-length
-same-length c = search needs
 
 returns-2 : tie.Need-returns-2
 unfolding summaryForm
@@ -57,11 +39,11 @@ pub meulhaton-pack-summary-spec : {M : Type 1} → statement M
 meulhaton-pack-summary-spec =
     tie.close
     (tie.spec
-    is-summary-requires
-    packed-requires
+    (λ c κs. search needs)
+    (λ c κs. search needs)
     returns
-    summary-of-requires
-    pack-summary-requires
-    packed-requires-2
-    same-length
+    (λ c κs. search needs)
+    (λ c κs. search needs)
+    (λ c κs. search needs)
+    (λ c. search needs)
     returns-2)

@@ -12,60 +12,6 @@ use Rattle.meulhaton.proofs.values.head_image.Tie as tie
 enum-told : tie.Need-enum-told
 enum-told c = search needs
 
-plain-requires : tie.Need-plain-requires
-plain-requires c κs = search needs
-
-enum-known-head : tie.Need-enum-known-head
-enum-known-head c = search needs
-
-cast-plain : tie.Need-cast-plain
-cast-plain c = search needs
-
-plain-requires-2 : tie.Need-plain-requires-2
-plain-requires-2 c κs = search needs
-
-enum-known-head-2 : tie.Need-enum-known-head-2
-enum-known-head-2 c = search needs
-
-plain-requires-3 : tie.Need-plain-requires-3
-plain-requires-3 c κs = search needs
-
-enum-known-head-3 : tie.Need-enum-known-head-3
-enum-known-head-3 c = search needs
-
-plain-requires-4 : tie.Need-plain-requires-4
-plain-requires-4 c κs = search needs
-
-enum-known-head-4 : tie.Need-enum-known-head-4
-enum-known-head-4 c = search needs
-
-lying-requires : tie.Need-lying-requires
-lying-requires c κs = search needs
-
-enum-known-head-5 : tie.Need-enum-known-head-5
-enum-known-head-5 c = search needs
-
-lying-requires-2 : tie.Need-lying-requires-2
-lying-requires-2 c κs = search needs
-
-enum-known-head-6 : tie.Need-enum-known-head-6
-enum-known-head-6 c = search needs
-
-lying-requires-3 : tie.Need-lying-requires-3
-lying-requires-3 c κs = search needs
-
-enum-known-head-7 : tie.Need-enum-known-head-7
-enum-known-head-7 c = search needs
-
-lying-requires-4 : tie.Need-lying-requires-4
-lying-requires-4 c κs = search needs
-
-enum-known-head-8 : tie.Need-enum-known-head-8
-enum-known-head-8 c = search needs
-
-lying-requires-5 : tie.Need-lying-requires-5
-lying-requires-5 c κs = search needs
-
 returns : tie.Need-returns
 returns c = c .plain .ensures ∙ ap headImage (sym (c .before .enum-told .given .1))
 
@@ -98,24 +44,24 @@ head-image-spec =
     tie.close
     (tie.spec
     enum-told
-    plain-requires
-    enum-known-head
-    cast-plain
-    plain-requires-2
-    enum-known-head-2
-    plain-requires-3
-    enum-known-head-3
-    plain-requires-4
-    enum-known-head-4
-    lying-requires
-    enum-known-head-5
-    lying-requires-2
-    enum-known-head-6
-    lying-requires-3
-    enum-known-head-7
-    lying-requires-4
-    enum-known-head-8
-    lying-requires-5
+    (λ c κs. search needs)
+    (λ c. search needs)
+    (λ c. search needs)
+    (λ c κs. search needs)
+    (λ c. search needs)
+    (λ c κs. search needs)
+    (λ c. search needs)
+    (λ c κs. search needs)
+    (λ c. search needs)
+    (λ c κs. search needs)
+    (λ c. search needs)
+    (λ c κs. search needs)
+    (λ c. search needs)
+    (λ c κs. search needs)
+    (λ c. search needs)
+    (λ c κs. search needs)
+    (λ c. search needs)
+    (λ c κs. search needs)
     returns
     returns-2
     returns-3

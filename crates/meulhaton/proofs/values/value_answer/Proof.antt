@@ -7,21 +7,6 @@ use Rattle.packstream.specs.declared.read.Reading.{Reading}
 use Rattle.meulhaton.proofs.values.value_answer.Statement.{statement}
 use Rattle.meulhaton.proofs.values.value_answer.Tie as tie
 
-enum-known-found : tie.Need-enum-known-found
-enum-known-found c = search needs
-
-head-image-requires : tie.Need-head-image-requires
-head-image-requires c κs = search needs
-
-enum-known-found-2 : tie.Need-enum-known-found-2
-enum-known-found-2 c = search needs
-
-number-requires : tie.Need-number-requires
-number-requires c κs = search needs
-
-plain-requires : tie.Need-plain-requires
-plain-requires c κs = search needs
-
 returns : tie.Need-returns
 returns c =
     (λ j. record { refusal = 0; place = 0; end = c .before .before .found .given .0 .1 .0; head = c .head-image .ensures j })
@@ -36,10 +21,10 @@ pub value-answer-spec : {M : Type 1} → statement M
 value-answer-spec =
     tie.close
     (tie.spec
-    enum-known-found
-    head-image-requires
-    enum-known-found-2
-    number-requires
-    plain-requires
+    (λ c. search needs)
+    (λ c κs. search needs)
+    (λ c. search needs)
+    (λ c κs. search needs)
+    (λ c κs. search needs)
     returns
     returns-2)

@@ -11,21 +11,6 @@ use Rattle.handshake.specs.declared.negotiation.Negotiation.{Negotiation}
 use Rattle.meulhaton.proofs.wire.agreed.Statement.{statement}
 use Rattle.meulhaton.proofs.wire.agreed.Tie as tie
 
-enum-known-found : tie.Need-enum-known-found
-enum-known-found c = search needs
-
-to-bytes-requires : tie.Need-to-bytes-requires
-to-bytes-requires c κs = search needs
-
-array-read-t9 : tie.Need-array-read-t9
-array-read-t9 c = search needs
-
-enum-known-found-2 : tie.Need-enum-known-found-2
-enum-known-found-2 c = search needs
-
-number-requires : tie.Need-number-requires
-number-requires c κs = search needs
-
 returns : tie.Need-returns
 returns c =
     ap (λ (l : List ℕ). agreementOf (result (getD l 2 0))) (c .to-bytes .ensures)
@@ -40,10 +25,10 @@ pub agreed-spec : {M : Type 1} → statement M
 agreed-spec =
     tie.close
     (tie.spec
-    enum-known-found
-    to-bytes-requires
-    array-read-t9
-    enum-known-found-2
-    number-requires
+    (λ c. search needs)
+    (λ c κs. search needs)
+    (λ c. search needs)
+    (λ c. search needs)
+    (λ c κs. search needs)
     returns
     returns-2)

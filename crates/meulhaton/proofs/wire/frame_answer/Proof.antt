@@ -7,17 +7,8 @@ use Rattle.framing.specs.declared.reader.Frame.{Frame}
 use Rattle.meulhaton.proofs.wire.frame_answer.Statement.{statement}
 use Rattle.meulhaton.proofs.wire.frame_answer.Tie as tie
 
-enum-known-found : tie.Need-enum-known-found
-enum-known-found c = search needs
-
 enum-told : tie.Need-enum-told
 enum-told c = search needs
-
-enum-known-found-2 : tie.Need-enum-known-found-2
-enum-known-found-2 c = search needs
-
-frame-refused-requires : tie.Need-frame-refused-requires
-frame-refused-requires c κs = search needs
 
 returns : tie.Need-returns
 returns c = ap (λ (d : Frame). frameAnswer (told d)) (sym (c .before .found .given .1))
@@ -32,10 +23,10 @@ pub frame-answer-spec : {M : Type 1} → statement M
 frame-answer-spec =
     tie.close
     (tie.spec
-    enum-known-found
+    (λ c. search needs)
     enum-told
-    enum-known-found-2
-    frame-refused-requires
+    (λ c. search needs)
+    (λ c κs. search needs)
     returns
     returns-2
     returns-3)

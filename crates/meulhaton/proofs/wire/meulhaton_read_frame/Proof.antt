@@ -12,26 +12,8 @@ use Rattle.meulhaton.proofs.Versions.{known, unknown}
 use Rattle.meulhaton.proofs.wire.meulhaton_read_frame.Statement.{statement}
 use Rattle.meulhaton.proofs.wire.meulhaton_read_frame.Tie as tie
 
-version-of-requires : tie.Need-version-of-requires
-version-of-requires c κs = search needs
-
-enum-known-proposal : tie.Need-enum-known-proposal
-enum-known-proposal c = search needs
-
-read-frame-requires : tie.Need-read-frame-requires
-read-frame-requires c κs = search needs
-
-frame-answer-requires : tie.Need-frame-answer-requires
-frame-answer-requires c κs = search needs
-
 enum-told : tie.Need-enum-told
 enum-told c = search needs
-
-frame-refused-requires : tie.Need-frame-refused-requires
-frame-refused-requires c κs = search needs
-
-same-length : tie.Need-same-length
-same-length c = search needs
 
 returns : tie.Need-returns
 returns c =
@@ -54,12 +36,12 @@ pub meulhaton-read-frame-spec : {M : Type 1} → statement M
 meulhaton-read-frame-spec =
     tie.close
     (tie.spec
-    version-of-requires
-    enum-known-proposal
-    read-frame-requires
-    frame-answer-requires
+    (λ c κs. search needs)
+    (λ c. search needs)
+    (λ c κs. search needs)
+    (λ c κs. search needs)
     enum-told
-    frame-refused-requires
-    same-length
+    (λ c κs. search needs)
+    (λ c. search needs)
     returns
     returns-2)

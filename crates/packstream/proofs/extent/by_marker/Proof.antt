@@ -9,26 +9,8 @@ use Rattle.packstream.proofs.Extents.{reserved-wanted, leaf-unwanted, l
 use Rattle.packstream.proofs.extent.by_marker.Statement.{statement}
 use Rattle.packstream.proofs.extent.by_marker.Tie as tie
 
-shared-slice-read-split : tie.Need-shared-slice-read-split
-shared-slice-read-split c = search needs
-
-split-requires : tie.Need-split-requires
-split-requires c κs = search needs
-
 enum-told : tie.Need-enum-told
 enum-told c = search needs
-
-refused-requires : tie.Need-refused-requires
-refused-requires c κs = search needs
-
-enum-known-kind : tie.Need-enum-known-kind
-enum-known-kind c = search needs
-
-is-wanted-requires : tie.Need-is-wanted-requires
-is-wanted-requires c κs = search needs
-
-refused-requires-2 : tie.Need-refused-requires-2
-refused-requires-2 c κs = search needs
 
 -- the marker that was taken apart
 skips : (c : tie.After-split) → c .split .result .skip ≤ 1
@@ -45,12 +27,6 @@ returns c =
 leaf-extent-requires : tie.Need-leaf-extent-requires
 leaf-extent-requires c κs = let x = c .before .before .before .before .before in (x .before .before .before .pre, skips x)
 
-enum-known-kind-2 : tie.Need-enum-known-kind-2
-enum-known-kind-2 c = search needs
-
-refused-requires-3 : tie.Need-refused-requires-3
-refused-requires-3 c κs = search needs
-
 returns-2 : tie.Need-returns-2
 returns-2 c =
     let x = c .before .before .before .before .before in
@@ -58,9 +34,6 @@ returns-2 c =
     let k = c .before .before .before .kind2 .given in
     c .refused3 .ensures
     ∙ container-unwanted (s .args .message .now) (s .args .at) (s .pre) (x .split .result) (x .split .ensures) (s .args .depth) (k .0 .0) (sym (k .1)) (s .args .is-key) (c .before .if2 .taken)
-
-refused-requires-4 : tie.Need-refused-requires-4
-refused-requires-4 c κs = search needs
 
 returns-3 : tie.Need-returns-3
 returns-3 c =
@@ -100,19 +73,19 @@ pub by-marker-spec : {M : Type 1} → statement M
 by-marker-spec =
     tie.close
     (tie.spec
-    shared-slice-read-split
-    split-requires
+    (λ c. search needs)
+    (λ c κs. search needs)
     enum-told
-    refused-requires
-    enum-known-kind
-    is-wanted-requires
-    refused-requires-2
+    (λ c κs. search needs)
+    (λ c. search needs)
+    (λ c κs. search needs)
+    (λ c κs. search needs)
     returns
     leaf-extent-requires
-    enum-known-kind-2
-    refused-requires-3
+    (λ c. search needs)
+    (λ c κs. search needs)
     returns-2
-    refused-requires-4
+    (λ c κs. search needs)
     returns-3
     container-extent-requires
     returns-4

@@ -11,15 +11,6 @@ use Rattle.packstream.proofs.Extents.{NoNumber, size-inside, container-
 use Rattle.packstream.proofs.extent.container_extent.Statement.{statement}
 use Rattle.packstream.proofs.extent.container_extent.Tie as tie
 
-size-at-requires : tie.Need-size-at-requires
-size-at-requires c κs = search needs
-
-enum-known-n : tie.Need-enum-known-n
-enum-known-n c = search needs
-
-refused-requires : tie.Need-refused-requires
-refused-requires c κs = search needs
-
 returns : tie.Need-returns
 returns c =
     let a = c .before .before .before .before .args in
@@ -30,9 +21,6 @@ returns c =
 -- the size that was found
 found : (c : tie.After-n) → let a = c .before .before .before .before .args in U.Number (c .n .given .0 .0) ≡ sizeAt (a .message .now) (a .at) (a .marker)
 found c = sym (c .n .given .1) ∙ c .before .before .size-at .ensures
-
-add-t8 : tie.Need-add-t8
-add-t8 c = search needs
 
 add-t9 : tie.Need-add-t9
 add-t9 c =
@@ -51,10 +39,10 @@ pub container-extent-spec : {M : Type 1} → statement M
 container-extent-spec =
     tie.close
     (tie.spec
-    size-at-requires
-    enum-known-n
-    refused-requires
+    (λ c κs. search needs)
+    (λ c. search needs)
+    (λ c κs. search needs)
     returns
-    add-t8
+    (λ c. search needs)
     add-t9
     returns-2)

@@ -17,20 +17,11 @@ use Rattle.packstream.proofs.extent.extent_at.Tie as tie
 abbrev byte : tie.Start → ℕ
 byte s = getD (s .args .message .now) (s .args .at) 0
 
-refused-requires : tie.Need-refused-requires
-refused-requires c κs = search needs
-
 returns : tie.Need-returns
 returns c = let a = c .before .before .before .args in c .refused .ensures ∙ extent-missing (a .message .now) (a .at) (a .depth) (c .before .if1 .taken)
 
-shared-slice-read-marker : tie.Need-shared-slice-read-marker
-shared-slice-read-marker c = search needs
-
 cast-small-string : tie.Need-cast-small-string
 cast-small-string c = omega (arith, mask-lt (byte (c .before .before .before .before)) 4)
-
-small-string-requires : tie.Need-small-string-requires
-small-string-requires c κs = search needs
 
 returns-2 : tie.Need-returns-2
 returns-2 c =
@@ -46,9 +37,6 @@ returns-3 c =
     integer-there (a .message .now) (a .at) (c .before .before .before .if1 .left)
     ∙ by-kind (a .message .now) (a .at) (c .before .before .before .if1 .left) (itself L.Integer 0) (small-integer (byte s) (c .if3 .taken)) (a .depth) (K.Leaf L.Integer) refl
 
-by-marker-requires : tie.Need-by-marker-requires
-by-marker-requires c κs = search needs
-
 returns-4 : tie.Need-returns-4
 returns-4 c = search needs
 
@@ -56,12 +44,12 @@ pub extent-at-spec : {M : Type 1} → statement M
 extent-at-spec =
     tie.close
     (tie.spec
-    refused-requires
+    (λ c κs. search needs)
     returns
-    shared-slice-read-marker
+    (λ c. search needs)
     cast-small-string
-    small-string-requires
+    (λ c κs. search needs)
     returns-2
     returns-3
-    by-marker-requires
+    (λ c κs. search needs)
     returns-4)

@@ -17,20 +17,11 @@ use Rattle.packstream.proofs.extent.key_extent_at.Tie as tie
 abbrev byte : tie.Start → ℕ
 byte s = getD (s .args .message .now) (s .args .at) 0
 
-refused-requires : tie.Need-refused-requires
-refused-requires c κs = search needs
-
 returns : tie.Need-returns
 returns c = let a = c .before .before .before .args in c .refused .ensures ∙ key-missing (a .message .now) (a .at) (c .before .if1 .taken)
 
-shared-slice-read-marker : tie.Need-shared-slice-read-marker
-shared-slice-read-marker c = search needs
-
 cast-small-string : tie.Need-cast-small-string
 cast-small-string c = omega (arith, mask-lt (byte (c .before .before .before .before)) 4)
-
-small-string-requires : tie.Need-small-string-requires
-small-string-requires c κs = search needs
 
 returns-2 : tie.Need-returns-2
 returns-2 c =
@@ -39,9 +30,6 @@ returns-2 c =
     c .small-string .ensures
     ∙ by-key-kind (a .message .now) (a .at) (c .before .before .before .if1 .left) (small (K.Leaf L.String) (bitAnd (byte s) 15)) (small-string (byte s) (c .before .if2 .taken)) (K.Leaf L.String) refl
 
-by-marker-requires : tie.Need-by-marker-requires
-by-marker-requires c κs = search needs
-
 returns-3 : tie.Need-returns-3
 returns-3 c = search needs
 
@@ -49,11 +37,11 @@ pub key-extent-at-spec : {M : Type 1} → statement M
 key-extent-at-spec =
     tie.close
     (tie.spec
-    refused-requires
+    (λ c κs. search needs)
     returns
-    shared-slice-read-marker
+    (λ c. search needs)
     cast-small-string
-    small-string-requires
+    (λ c κs. search needs)
     returns-2
-    by-marker-requires
+    (λ c κs. search needs)
     returns-3)

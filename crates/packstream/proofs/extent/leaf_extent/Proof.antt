@@ -13,15 +13,6 @@ use Rattle.packstream.proofs.Extents.{NoNumber, size-inside, leaf-unsiz
 use Rattle.packstream.proofs.extent.leaf_extent.Statement.{statement}
 use Rattle.packstream.proofs.extent.leaf_extent.Tie as tie
 
-size-at-requires : tie.Need-size-at-requires
-size-at-requires c κs = search needs
-
-enum-known-n : tie.Need-enum-known-n
-enum-known-n c = search needs
-
-refused-requires : tie.Need-refused-requires
-refused-requires c κs = search needs
-
 returns : tie.Need-returns
 returns c =
     let a = c .before .before .before .before .args in
@@ -39,17 +30,11 @@ inside c =
     let a = start .args in
     size-inside (a .message .now) (a .at) (a .marker) (c .n .given .0 .0) (found c) (start .pre .0) (start .pre .1)
 
-add-start : tie.Need-add-start
-add-start c = search needs
-
 add-start-2 : tie.Need-add-start-2
 add-start-2 c = omega (arith, inside (c .before .before .before))
 
 sub-if1 : tie.Need-sub-if1
 sub-if1 c = inside (c .before .before .before)
-
-refused-requires-2 : tie.Need-refused-requires-2
-refused-requires-2 c κs = search needs
 
 returns-2 : tie.Need-returns-2
 returns-2 c =
@@ -68,13 +53,13 @@ pub leaf-extent-spec : {M : Type 1} → statement M
 leaf-extent-spec =
     tie.close
     (tie.spec
-    size-at-requires
-    enum-known-n
-    refused-requires
+    (λ c κs. search needs)
+    (λ c. search needs)
+    (λ c κs. search needs)
     returns
-    add-start
+    (λ c. search needs)
     add-start-2
     sub-if1
-    refused-requires-2
+    (λ c κs. search needs)
     returns-2
     returns-3)

@@ -20,18 +20,6 @@ found : (c : tie.After-extent) → let g = c .extent .given .0 in
     E.Leaf (g .0) (g .1 .0) (g .1 .1 .0) ≡ keyExtentAt (c .before .before .before .before .before .args .message .now) (c .before .before .before .before .before .args .at)
 found c = sym (c .extent .given .1) ∙ c .before .before .key-extent-at .ensures
 
-key-extent-at-requires : tie.Need-key-extent-at-requires
-key-extent-at-requires c κs = search needs
-
-enum-known-extent : tie.Need-enum-known-extent
-enum-known-extent c = search needs
-
-is-utf8-part-requires : tie.Need-is-utf8-part-requires
-is-utf8-part-requires c κs = search needs
-
-refused-requires : tie.Need-refused-requires
-refused-requires c κs = search needs
-
 returns : tie.Need-returns
 returns c =
     let start = c .before .before .before .before .before .before .before .before .before in
@@ -45,9 +33,6 @@ repeats-requires c κs =
     let a = start .args in
     (leaf-key-inside (a .message .now) (seen start) (a .at) _ _ _ (found (c .before .before .before)), start .pre .0, start .pre .1)
 
-refused-requires-2 : tie.Need-refused-requires-2
-refused-requires-2 c κs = search needs
-
 returns-2 : tie.Need-returns-2
 returns-2 c =
     let start = c .before .before .before .before .before .before .before .before .before .before .before in
@@ -58,15 +43,6 @@ returns-2 c =
 
 enum-told : tie.Need-enum-told
 enum-told c = search needs
-
-refused-requires-3 : tie.Need-refused-requires-3
-refused-requires-3 c κs = search needs
-
-enum-known-extent-2 : tie.Need-enum-known-extent-2
-enum-known-extent-2 c = search needs
-
-refused-requires-4 : tie.Need-refused-requires-4
-refused-requires-4 c κs = search needs
 
 returns-3 : tie.Need-returns-3
 returns-3 c =
@@ -93,18 +69,18 @@ pub read-key-spec : {M : Type 1} → statement M
 read-key-spec =
     tie.close
     (tie.spec
-    key-extent-at-requires
-    enum-known-extent
-    is-utf8-part-requires
-    refused-requires
+    (λ c κs. search needs)
+    (λ c. search needs)
+    (λ c κs. search needs)
+    (λ c κs. search needs)
     returns
     repeats-requires
-    refused-requires-2
+    (λ c κs. search needs)
     returns-2
     enum-told
-    refused-requires-3
-    enum-known-extent-2
-    refused-requires-4
+    (λ c κs. search needs)
+    (λ c. search needs)
+    (λ c κs. search needs)
     returns-3
     returns-4
     returns-5)

@@ -44,62 +44,11 @@ old-is d = rw (d .before .before .wide .ensures, d .wide2 .ensures)
 search-holds : tie.Need-search-holds Inv-loop μ-loop Inv-search μ-search
 search-holds c = (omega arith, refl, refl)
 
-sub-left : tie.Need-sub-left Inv-loop μ-loop Inv-search μ-search
-sub-left c = omega arith
-
-mul-wide : tie.Need-mul-wide Inv-loop μ-loop Inv-search μ-search
-mul-wide c = omega arith
-
-add-wide : tie.Need-add-wide Inv-loop μ-loop Inv-search μ-search
-add-wide c = omega arith
-
-mul-wide-2 : tie.Need-mul-wide-2 Inv-loop μ-loop Inv-search μ-search
-mul-wide-2 c = omega arith
-
-shared-slice-read-wide : tie.Need-shared-slice-read-wide Inv-loop μ-loop Inv-search μ-search
-shared-slice-read-wide c = omega arith
-
-wide-requires : tie.Need-wide-requires Inv-loop μ-loop Inv-search μ-search
-wide-requires c κs = search needs
-
-mul-wide-3 : tie.Need-mul-wide-3 Inv-loop μ-loop Inv-search μ-search
-mul-wide-3 c = omega arith
-
-add-wide-2 : tie.Need-add-wide-2 Inv-loop μ-loop Inv-search μ-search
-add-wide-2 c = omega arith
-
-add-wide-3 : tie.Need-add-wide-3 Inv-loop μ-loop Inv-search μ-search
-add-wide-3 c = omega arith
-
-mul-wide-4 : tie.Need-mul-wide-4 Inv-loop μ-loop Inv-search μ-search
-mul-wide-4 c = omega arith
-
-shared-slice-read-wide-2 : tie.Need-shared-slice-read-wide-2 Inv-loop μ-loop Inv-search μ-search
-shared-slice-read-wide-2 c = omega arith
-
-wide-requires-2 : tie.Need-wide-requires-2 Inv-loop μ-loop Inv-search μ-search
-wide-requires-2 c κs = search needs
-
-sub-if3 : tie.Need-sub-if3 Inv-loop μ-loop Inv-search μ-search
-sub-if3 c = omega arith
-
 add-if3 : tie.Need-add-if3 Inv-loop μ-loop Inv-search μ-search
 add-if3 c = omega (arith, old-inside (c .before .before), c .before .if1 .taken)
 
 shared-slice-read-if3 : tie.Need-shared-slice-read-if3 Inv-loop μ-loop Inv-search μ-search
 shared-slice-read-if3 c = omega (arith, old-inside (c .before .before .before), c .before .before .if1 .taken)
-
-sub-if3-2 : tie.Need-sub-if3-2 Inv-loop μ-loop Inv-search μ-search
-sub-if3-2 c = omega arith
-
-add-if3-2 : tie.Need-add-if3-2 Inv-loop μ-loop Inv-search μ-search
-add-if3-2 c = omega arith
-
-shared-slice-read-if3-2 : tie.Need-shared-slice-read-if3-2 Inv-loop μ-loop Inv-search μ-search
-shared-slice-read-if3-2 c = omega arith
-
-search-less : tie.Need-search-less Inv-loop μ-loop Inv-search μ-search
-search-less c = omega arith
 
 search-again : tie.Need-search-again Inv-loop μ-loop Inv-search μ-search
 search-again c =
@@ -125,15 +74,6 @@ add-if5 c = omega (arith, c .before .loop .inv .2)
 shared-slice-read-if5 : tie.Need-shared-slice-read-if5 Inv-loop μ-loop Inv-search μ-search
 shared-slice-read-if5 c = omega (arith, c .before .before .loop .inv .2)
 
-add-if5-2 : tie.Need-add-if5-2 Inv-loop μ-loop Inv-search μ-search
-add-if5-2 c = omega arith
-
-shared-slice-read-if5-2 : tie.Need-shared-slice-read-if5-2 Inv-loop μ-loop Inv-search μ-search
-shared-slice-read-if5-2 c = omega arith
-
-search-less-2 : tie.Need-search-less-2 Inv-loop μ-loop Inv-search μ-search
-search-less-2 c = omega arith
-
 search-again-2 : tie.Need-search-again-2 Inv-loop μ-loop Inv-search μ-search
 search-again-2 c =
     let a = c .before .before .before .before .before .before .before .before .before .before .before .before .before .before .before .args in
@@ -149,12 +89,6 @@ search-again-2 c =
           ∙ differs),
     )
 
-add-i : tie.Need-add-i Inv-loop μ-loop Inv-search μ-search
-add-i c = omega arith
-
-loop-less : tie.Need-loop-less Inv-loop μ-loop Inv-search μ-search
-loop-less c = omega arith
-
 loop-again : tie.Need-loop-again Inv-loop μ-loop Inv-search μ-search
 loop-again c =
     let a = c .before .before .before .before .before .before .before .before .before .before .before .before .before .before .before .args in
@@ -165,9 +99,6 @@ loop-again c =
       l .inv .2,
       one-equal (a .message .now) (d .before .before .wide .result) (a .start) (a .size) (l .i) (l .inv .3) (omega arith) (l .inv .2) (c .before .before .before .before .before .before .before .before .before .before .before .before .before .before .before .pre .0) (c .if5 .left),
     )
-
-search-less-3 : tie.Need-search-less-3 Inv-loop μ-loop Inv-search μ-search
-search-less-3 c = omega arith
 
 search-again-3 : tie.Need-search-again-3 Inv-loop μ-loop Inv-search μ-search
 search-again-3 c =
@@ -205,37 +136,37 @@ repeats-spec =
     Inv-search
     μ-search
     search-holds
-    sub-left
-    mul-wide
-    add-wide
-    mul-wide-2
-    shared-slice-read-wide
-    wide-requires
-    mul-wide-3
-    add-wide-2
-    add-wide-3
-    mul-wide-4
-    shared-slice-read-wide-2
-    wide-requires-2
-    sub-if3
+    (λ c. omega arith)
+    (λ c. omega arith)
+    (λ c. omega arith)
+    (λ c. omega arith)
+    (λ c. omega arith)
+    (λ c κs. search needs)
+    (λ c. omega arith)
+    (λ c. omega arith)
+    (λ c. omega arith)
+    (λ c. omega arith)
+    (λ c. omega arith)
+    (λ c κs. search needs)
+    (λ c. omega arith)
     add-if3
     shared-slice-read-if3
-    sub-if3-2
-    add-if3-2
-    shared-slice-read-if3-2
-    search-less
+    (λ c. omega arith)
+    (λ c. omega arith)
+    (λ c. omega arith)
+    (λ c. omega arith)
     search-again
     loop-holds
     add-if5
     shared-slice-read-if5
-    add-if5-2
-    shared-slice-read-if5-2
-    search-less-2
+    (λ c. omega arith)
+    (λ c. omega arith)
+    (λ c. omega arith)
     search-again-2
-    add-i
-    loop-less
+    (λ c. omega arith)
+    (λ c. omega arith)
     loop-again
-    search-less-3
+    (λ c. omega arith)
     search-again-3
     returns
     returns-2)

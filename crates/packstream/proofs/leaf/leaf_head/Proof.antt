@@ -11,17 +11,11 @@ use Rattle.packstream.proofs.leaf.leaf_head.Tie as tie
 enum-told : tie.Need-enum-told
 enum-told c = search needs
 
-enum-told-2 : tie.Need-enum-told-2
-enum-told-2 c = search needs
-
 shared-slice-read-t7 : tie.Need-shared-slice-read-t7
 shared-slice-read-t7 c =
     let start = c .before .before .before .before in
     let a = start .args in
     omega (arith, boolean-size (a .message .now) (a .kind) (a .start) (a .size) (c .before .enum-told2 .given .1) (start .pre .1), start .pre .0)
-
-enum-told-3 : tie.Need-enum-told-3
-enum-told-3 c = search needs
 
 integer-at-requires : tie.Need-integer-at-requires
 integer-at-requires c κs =
@@ -29,20 +23,11 @@ integer-at-requires c κs =
     let a = start .args in
     (start .pre .0, integer-size (a .message .now) (a .kind) (a .start) (a .size) (c .enum-told3 .given .1) (start .pre .1))
 
-enum-told-4 : tie.Need-enum-told-4
-enum-told-4 c = search needs
-
 float-at-requires : tie.Need-float-at-requires
 float-at-requires c κs =
     let start = c .before .before .before in
     let a = start .args in
     omega (arith, float-size (a .message .now) (a .kind) (a .start) (a .size) (c .enum-told4 .given .1) (start .pre .1), start .pre .0)
-
-enum-told-5 : tie.Need-enum-told-5
-enum-told-5 c = search needs
-
-enum-told-6 : tie.Need-enum-told-6
-enum-told-6 c = search needs
 
 returns : tie.Need-returns
 returns c = let a = c .before .before .before .args in null-head (a .message .now) (a .kind) (a .start) (a .size) (c .enum-told .given .1)
@@ -75,14 +60,14 @@ leaf-head-spec =
     tie.close
     (tie.spec
     enum-told
-    enum-told-2
+    (λ c. search needs)
     shared-slice-read-t7
-    enum-told-3
+    (λ c. search needs)
     integer-at-requires
-    enum-told-4
+    (λ c. search needs)
     float-at-requires
-    enum-told-5
-    enum-told-6
+    (λ c. search needs)
+    (λ c. search needs)
     returns
     returns-2
     returns-3

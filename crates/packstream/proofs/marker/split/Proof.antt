@@ -11,30 +11,6 @@ use Rattle.packstream.proofs.marker.split.Tie as tie
 cast-size : tie.Need-cast-size
 cast-size c = omega (arith, mask-lt (c .args .marker) 4)
 
-small-requires : tie.Need-small-requires
-small-requires c κs = search needs
-
-small-requires-2 : tie.Need-small-requires-2
-small-requires-2 c κs = search needs
-
-small-requires-3 : tie.Need-small-requires-3
-small-requires-3 c κs = search needs
-
-small-requires-4 : tie.Need-small-requires-4
-small-requires-4 c κs = search needs
-
-wide-requires : tie.Need-wide-requires
-wide-requires c κs = search needs
-
-wide-requires-2 : tie.Need-wide-requires-2
-wide-requires-2 c κs = search needs
-
-reserved-requires : tie.Need-reserved-requires
-reserved-requires c κs = search needs
-
-itself-requires : tie.Need-itself-requires
-itself-requires c κs = search needs
-
 returns : tie.Need-returns
 returns c = let a = c .before .before in c .small .ensures ∙ by-split (a .args .marker) 8 (a .fits .marker .fits) (c .before .match .keys1)
 
@@ -46,12 +22,6 @@ returns-3 c = let a = c .before .before in c .small3 .ensures ∙ by-split (a .a
 
 returns-4 : tie.Need-returns-4
 returns-4 c = let a = c .before .before in c .small4 .ensures ∙ by-split (a .args .marker) 11 (a .fits .marker .fits) (c .before .match .keys4)
-
-returns-5 : tie.Need-returns-5
-returns-5 c = search needs
-
-returns-6 : tie.Need-returns-6
-returns-6 c = search needs
 
 returns-7 : tie.Need-returns-7
 returns-7 c = let a = c .before .before in c .reserved .ensures ∙ by-split (a .args .marker) 14 (a .fits .marker .fits) (c .before .match .keys7)
@@ -69,19 +39,19 @@ split-spec =
     tie.close
     (tie.spec
     cast-size
-    small-requires
-    small-requires-2
-    small-requires-3
-    small-requires-4
-    wide-requires
-    wide-requires-2
-    reserved-requires
-    itself-requires
+    (λ c κs. search needs)
+    (λ c κs. search needs)
+    (λ c κs. search needs)
+    (λ c κs. search needs)
+    (λ c κs. search needs)
+    (λ c κs. search needs)
+    (λ c κs. search needs)
+    (λ c κs. search needs)
     returns
     returns-2
     returns-3
     returns-4
-    returns-5
-    returns-6
+    (λ c. search needs)
+    (λ c. search needs)
     returns-7
     returns-8)

@@ -17,24 +17,6 @@ shl-width c = omega (arith, mask-lt (c .args .marker) 2)
 constant-requires : tie.Need-constant-requires
 constant-requires c κs = mask-lt (c .before .args .marker) 2
 
-small-requires : tie.Need-small-requires
-small-requires c κs = search needs
-
-sized-requires : tie.Need-sized-requires
-sized-requires c κs = search needs
-
-sized-requires-2 : tie.Need-sized-requires-2
-sized-requires-2 c κs = search needs
-
-sized-requires-3 : tie.Need-sized-requires-3
-sized-requires-3 c κs = search needs
-
-sized-requires-4 : tie.Need-sized-requires-4
-sized-requires-4 c κs = search needs
-
-reserved-requires : tie.Need-reserved-requires
-reserved-requires c κs = search needs
-
 returns : tie.Need-returns
 returns c = let a = c .before .before in c .constant .ensures ∙ by-wide (a .args .marker) 0x30 (a .pre .0) (a .pre .1) (c .before .match .keys1)
 
@@ -68,12 +50,12 @@ wide-spec =
     cast-width
     shl-width
     constant-requires
-    small-requires
-    sized-requires
-    sized-requires-2
-    sized-requires-3
-    sized-requires-4
-    reserved-requires
+    (λ c κs. search needs)
+    (λ c κs. search needs)
+    (λ c κs. search needs)
+    (λ c κs. search needs)
+    (λ c κs. search needs)
+    (λ c κs. search needs)
     returns
     returns-2
     returns-3

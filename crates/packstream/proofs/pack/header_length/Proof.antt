@@ -10,9 +10,6 @@ use Rattle.packstream.proofs.pack.header_length.Tie as tie
 returns : tie.Need-returns
 returns c = rw (lt-ltb (c .before .args .size) 16 (c .if1 .taken))
 
-size-width-requires : tie.Need-size-width-requires
-size-width-requires c κs = search needs
-
 add-result : tie.Need-add-result
 add-result c = let n = c .before .before .args .size in omega (arith, narrowest-most (λ w. holds w n))
 
@@ -24,6 +21,6 @@ header-length-spec =
     tie.close
     (tie.spec
     returns
-    size-width-requires
+    (λ c κs. search needs)
     add-result
     returns-2)

@@ -9,16 +9,10 @@ use Rattle.packstream.proofs.Packing.{narrowest-most, length-tiny, leng
 use Rattle.packstream.proofs.pack.integer_length.Statement.{statement}
 use Rattle.packstream.proofs.pack.integer_length.Tie as tie
 
-is-tiny-requires : tie.Need-is-tiny-requires
-is-tiny-requires c κs = search needs
-
 returns : tie.Need-returns
 returns c =
     let a = c .before .before in
     sym (length-tiny (a .args .number) (rw (toZ-ofZ (a .fits .number)) at (sym (c .before .is-tiny .ensures) ∙ c .if1 .taken)))
-
-integer-width-requires : tie.Need-integer-width-requires
-integer-width-requires c κs = search needs
 
 add-result : tie.Need-add-result
 add-result c =
@@ -36,8 +30,8 @@ pub integer-length-spec : {M : Type 1} → statement M
 integer-length-spec =
     tie.close
     (tie.spec
-    is-tiny-requires
+    (λ c κs. search needs)
     returns
-    integer-width-requires
+    (λ c κs. search needs)
     add-result
     returns-2)

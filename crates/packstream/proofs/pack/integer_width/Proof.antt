@@ -15,26 +15,17 @@ not-1 d = rw (toZ-ofZ (d .before .before .fits .number)) at (sym (d .before .fit
 not-2 : (d : tie.Else2) → fitsIn 2 (d .before .before .before .before .args .number) ≡ false
 not-2 d = rw (toZ-ofZ (d .before .before .before .before .fits .number)) at (sym (d .before .fits-signed2 .ensures) ∙ d .if2 .left)
 
-fits-signed-requires : tie.Need-fits-signed-requires
-fits-signed-requires c κs = search needs
-
 returns : tie.Need-returns
 returns c =
     let a = c .before .before in
     let e : fitsIn 1 (a .args .number) ≡ true = rw (toZ-ofZ (a .fits .number)) at (sym (c .before .fits-signed .ensures) ∙ c .if1 .taken) in
     sym (is-1 (λ w. fitsIn w (a .args .number)) e)
 
-fits-signed-requires-2 : tie.Need-fits-signed-requires-2
-fits-signed-requires-2 c κs = search needs
-
 returns-2 : tie.Need-returns-2
 returns-2 c =
     let a = c .before .before .before .before in
     let e : fitsIn 2 (a .args .number) ≡ true = rw (toZ-ofZ (a .fits .number)) at (sym (c .before .fits-signed2 .ensures) ∙ c .if2 .taken) in
     sym (is-2 (λ w. fitsIn w (a .args .number)) (not-1 (c .before .before)) e)
-
-fits-signed-requires-3 : tie.Need-fits-signed-requires-3
-fits-signed-requires-3 c κs = search needs
 
 returns-3 : tie.Need-returns-3
 returns-3 c =
@@ -52,10 +43,10 @@ pub integer-width-spec : {M : Type 1} → statement M
 integer-width-spec =
     tie.close
     (tie.spec
-    fits-signed-requires
+    (λ c κs. search needs)
     returns
-    fits-signed-requires-2
+    (λ c κs. search needs)
     returns-2
-    fits-signed-requires-3
+    (λ c κs. search needs)
     returns-3
     returns-4)

@@ -16,9 +16,6 @@ use Rattle.packstream.proofs.pack.pack_boolean.Tie as tie
 room : (d : tie.Else1) → let a = d .before .before .before .args in a .at + 1 ≤ length (a .out .now)
 room d = let a = d .before .before .before .args in reaches-le (a .out .now) (a .at) 1 (passed (d .before .in-bounds .ensures) (d .if1 .left))
 
-in-bounds-requires : tie.Need-in-bounds-requires
-in-bounds-requires c κs = search needs
-
 returns : tie.Need-returns
 returns c =
     let a = c .before .before .before .args in
@@ -29,9 +26,6 @@ slice-write-out c = omega (arith, room (c .before))
 
 add-end : tie.Need-add-end
 add-end c = omega (arith, room (c .before), c .before .before .before .before .good)
-
-same-length : tie.Need-same-length
-same-length c = search needs
 
 returns-2 : tie.Need-returns-2
 returns-2 c =
@@ -46,9 +40,6 @@ slice-write-out-2 c = omega (arith, room (c .before))
 add-end-2 : tie.Need-add-end-2
 add-end-2 c = omega (arith, room (c .before), c .before .before .before .before .good)
 
-same-length-2 : tie.Need-same-length-2
-same-length-2 c = search needs
-
 returns-3 : tie.Need-returns-3
 returns-3 c =
     let o = c .before in
@@ -60,13 +51,13 @@ pub pack-boolean-spec : {M : Type 1} → statement M
 pack-boolean-spec =
     tie.close
     (tie.spec
-    in-bounds-requires
+    (λ c κs. search needs)
     returns
     slice-write-out
     add-end
-    same-length
+    (λ c. search needs)
     returns-2
     slice-write-out-2
     add-end-2
-    same-length-2
+    (λ c. search needs)
     returns-3)

@@ -28,12 +28,6 @@ returns c =
     let a = c .before .before .args in
     refuses (a .out .now) (a .at) (dictionaryForm (a .count)) TooLong (dictionary-long (a .count) (c .if1 .taken))
 
-header-length-requires : tie.Need-header-length-requires
-header-length-requires c κs = search needs
-
-in-bounds-requires : tie.Need-in-bounds-requires
-in-bounds-requires c κs = search needs
-
 returns-2 : tie.Need-returns-2
 returns-2 c =
     let d = c .before .before in
@@ -49,9 +43,6 @@ put-header-requires c κs =
 add-end : tie.Need-add-end
 add-end c = let o = c .before .before .before .before in omega (arith, room o, o .before .before .before .before .before .good)
 
-same-length : tie.Need-same-length
-same-length c = search needs
-
 returns-3 : tie.Need-returns-3
 returns-3 c =
     let p = c .before .before in
@@ -65,10 +56,10 @@ pack-dictionary-spec =
     tie.close
     (tie.spec
     returns
-    header-length-requires
-    in-bounds-requires
+    (λ c κs. search needs)
+    (λ c κs. search needs)
     returns-2
     put-header-requires
     add-end
-    same-length
+    (λ c. search needs)
     returns-3)

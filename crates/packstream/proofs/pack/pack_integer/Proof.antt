@@ -23,12 +23,6 @@ room d =
     let a = d .before .before .before .before .args in
     reaches-le (a .out .now) (a .at) (d .before .before .integer-length .result) (passed (d .before .in-bounds .ensures) (d .if1 .left))
 
-integer-length-requires : tie.Need-integer-length-requires
-integer-length-requires c κs = search needs
-
-in-bounds-requires : tie.Need-in-bounds-requires
-in-bounds-requires c κs = search needs
-
 returns : tie.Need-returns
 returns c =
     let d = c .before .before in
@@ -44,9 +38,6 @@ put-integer-requires c κs =
 add-end : tie.Need-add-end
 add-end c = let o = c .before .before .before .before in omega (arith, room o, o .before .before .before .before .good)
 
-same-length : tie.Need-same-length
-same-length c = search needs
-
 returns-2 : tie.Need-returns-2
 returns-2 c =
     let p = c .before .before in
@@ -61,10 +52,10 @@ pub pack-integer-spec : {M : Type 1} → statement M
 pack-integer-spec =
     tie.close
     (tie.spec
-    integer-length-requires
-    in-bounds-requires
+    (λ c κs. search needs)
+    (λ c κs. search needs)
     returns
     put-integer-requires
     add-end
-    same-length
+    (λ c. search needs)
     returns-2)

@@ -33,25 +33,16 @@ returns c =
     let a = c .before .before .before .args in
     refuses (a .out .now) (a .at) (stringForm (a .text .now)) TooLong (string-long (a .text .now) (c .if1 .taken))
 
-is-utf8-requires : tie.Need-is-utf8-requires
-is-utf8-requires c κs = search needs
-
 returns-2 : tie.Need-returns-2
 returns-2 c =
     let o = c .before .before in
     let a = o .before .before .before .args in
     refuses (a .out .now) (a .at) (stringForm (a .text .now)) InvalidUtf8 (string-invalid (a .text .now) (o .if1 .left) (failed (c .before .is-utf8 .ensures) (c .if2 .taken)))
 
-header-length-requires : tie.Need-header-length-requires
-header-length-requires c κs = search needs
-
 add-total : tie.Need-add-total
 add-total c =
     let a = c .before .before .before .before .before .before .args in
     omega (arith, c .header-length .ensures, header-most (length (a .text .now)), c .before .before .before .if1 .left)
-
-in-bounds-requires : tie.Need-in-bounds-requires
-in-bounds-requires c κs = search needs
 
 returns-3 : tie.Need-returns-3
 returns-3 c =
@@ -69,14 +60,8 @@ put-header-requires c κs =
 add-copy : tie.Need-add-copy
 add-copy c = let o = c .before .before .before .before .before in omega (arith, room o, o .before .before .before .before .before .before .before .before .good)
 
-copy-requires : tie.Need-copy-requires
-copy-requires c κs = search needs
-
 add-end : tie.Need-add-end
 add-end c = let o = c .before .before .before .before .before .before .before .before in omega (arith, room o, o .before .before .before .before .before .before .before .before .good)
-
-same-length : tie.Need-same-length
-same-length c = search needs
 
 returns-4 : tie.Need-returns-4
 returns-4 c =
@@ -94,15 +79,15 @@ pack-string-spec =
     tie.close
     (tie.spec
     returns
-    is-utf8-requires
+    (λ c κs. search needs)
     returns-2
-    header-length-requires
+    (λ c κs. search needs)
     add-total
-    in-bounds-requires
+    (λ c κs. search needs)
     returns-3
     put-header-requires
     add-copy
-    copy-requires
+    (λ c κs. search needs)
     add-end
-    same-length
+    (λ c. search needs)
     returns-4)

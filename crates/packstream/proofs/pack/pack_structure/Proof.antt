@@ -24,19 +24,10 @@ returns c =
     let a = c .before .before .args in
     refuses (a .out .now) (a .at) (structureForm (a .tag) (a .count)) TooLong (structure-long (a .tag) (a .count) (c .if1 .taken))
 
-in-bounds-requires : tie.Need-in-bounds-requires
-in-bounds-requires c κs = search needs
-
 returns-2 : tie.Need-returns-2
 returns-2 c =
     let a = c .before .before .before .before .args in
     no-room (a .out .now) (a .at) (structureForm (a .tag) (a .count)) (structureHeader (a .tag) (a .count)) 2 _ (structure-formed (a .tag) (a .count) (c .before .before .if1 .left)) refl (c .before .in-bounds .ensures) (c .if2 .taken)
-
-cast-out : tie.Need-cast-out
-cast-out c = search needs
-
-add-out : tie.Need-add-out
-add-out c = search needs
 
 slice-write-out : tie.Need-slice-write-out
 slice-write-out c = omega (arith, room c)
@@ -50,9 +41,6 @@ slice-write-out-2 c = simp length-set (omega (arith, room c))
 add-end : tie.Need-add-end
 add-end c = omega (arith, room c, c .before .before .before .before .good)
 
-same-length : tie.Need-same-length
-same-length c = search needs
-
 returns-3 : tie.Need-returns-3
 returns-3 c =
     let a = c .before .before .before .before .args in
@@ -63,13 +51,13 @@ pack-structure-spec =
     tie.close
     (tie.spec
     returns
-    in-bounds-requires
+    (λ c κs. search needs)
     returns-2
-    cast-out
-    add-out
+    (λ c. search needs)
+    (λ c. search needs)
     slice-write-out
     add-out-2
     slice-write-out-2
     add-end
-    same-length
+    (λ c. search needs)
     returns-3)

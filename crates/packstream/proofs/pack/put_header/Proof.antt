@@ -7,32 +7,17 @@ use Rattle.packstream.proofs.Packing.{doublings-most, small-room, small
 use Rattle.packstream.proofs.pack.put_header.Statement.{statement}
 use Rattle.packstream.proofs.pack.put_header.Tie as tie
 
-cast-out : tie.Need-cast-out
-cast-out c = search needs
-
-add-out : tie.Need-add-out
-add-out c = search needs
-
 slice-write-out : tie.Need-slice-write-out
 slice-write-out c =
     let b = c .before .before in
     let a = b .args in
     small-room (a .small) (a .row) (a .size) (a .out .now) (a .at) (b .pre .2) (c .if1 .taken)
 
-same-length : tie.Need-same-length
-same-length c = search needs
-
 returns : tie.Need-returns
 returns c =
     let b = c .before .before in
     let a = b .args in
     small-put (a .small) (a .row) (a .size) (a .out .now) (a .at) (b .pre .2) (c .if1 .taken)
-
-size-width-requires : tie.Need-size-width-requires
-size-width-requires c κs = search needs
-
-doublings-requires : tie.Need-doublings-requires
-doublings-requires c κs = search needs
 
 add-out-2 : tie.Need-add-out-2
 add-out-2 c = omega (arith, c .doublings .ensures, doublings-most (c .before .size-width .result), c .before .before .before .before .pre .1)
@@ -43,12 +28,6 @@ slice-write-out-2 c =
     let b = o .before .before in
     let a = b .args in
     omega (arith, wide-room (a .small) (a .row) (a .size) (a .out .now) (a .at) (b .pre .2) (c .before .size-width .result) (c .before .size-width .ensures) (o .if1 .left))
-
-add-write-unsigned : tie.Need-add-write-unsigned
-add-write-unsigned c = search needs
-
-write-unsigned-requires : tie.Need-write-unsigned-requires
-write-unsigned-requires c κs = search needs
 
 same-length-2 : tie.Need-same-length-2
 same-length-2 c = c .before .before .write-unsigned .kept .0 ∙ simp length-set
@@ -67,16 +46,16 @@ pub put-header-spec : {M : Type 1} → statement M
 put-header-spec =
     tie.close
     (tie.spec
-    cast-out
-    add-out
+    (λ c. search needs)
+    (λ c. search needs)
     slice-write-out
-    same-length
+    (λ c. search needs)
     returns
-    size-width-requires
-    doublings-requires
+    (λ c κs. search needs)
+    (λ c κs. search needs)
     add-out-2
     slice-write-out-2
-    add-write-unsigned
-    write-unsigned-requires
+    (λ c. search needs)
+    (λ c κs. search needs)
     same-length-2
     returns-2)

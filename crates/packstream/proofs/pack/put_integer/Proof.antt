@@ -17,15 +17,6 @@ tiny d = rw (toZ-ofZ (d .before .before .before .fits .number)) at (sym (d .befo
 not-tiny : (d : tie.Else1) → isTiny (d .before .before .before .args .number) ≡ false
 not-tiny d = rw (toZ-ofZ (d .before .before .before .fits .number)) at (sym (d .before .is-tiny .ensures) ∙ d .if1 .left)
 
-is-tiny-requires : tie.Need-is-tiny-requires
-is-tiny-requires c κs = search needs
-
-write-signed-requires : tie.Need-write-signed-requires
-write-signed-requires c κs = search needs
-
-same-length : tie.Need-same-length
-same-length c = search needs
-
 returns : tie.Need-returns
 returns c =
     let p = c .before .before in
@@ -35,12 +26,6 @@ returns c =
     let f = toZ-ofZ (b .fits .number) in
     tiny-put z (b .args .out .now) (b .args .at) (p .write-signed .result) _ (b .pre) (tiny d) (rw f at (p .write-signed .ensures .0)) (rw f at (p .write-signed .ensures .1))
 
-integer-width-requires : tie.Need-integer-width-requires
-integer-width-requires c κs = search needs
-
-doublings-requires : tie.Need-doublings-requires
-doublings-requires c κs = search needs
-
 add-out : tie.Need-add-out
 add-out c = omega (arith, c .doublings .ensures, doublings-most (c .before .integer-width .result))
 
@@ -48,12 +33,6 @@ slice-write-out : tie.Need-slice-write-out
 slice-write-out c =
     let b = c .before .before .before .before .before in
     omega (arith, b .pre, length-integer (b .args .number) (not-tiny (c .before .before)))
-
-add-write-signed : tie.Need-add-write-signed
-add-write-signed c = search needs
-
-write-signed-requires-2 : tie.Need-write-signed-requires-2
-write-signed-requires-2 c κs = search needs
 
 same-length-2 : tie.Need-same-length-2
 same-length-2 c = c .before .before .write-signed2 .kept .0 ∙ simp length-set
@@ -74,15 +53,15 @@ pub put-integer-spec : {M : Type 1} → statement M
 put-integer-spec =
     tie.close
     (tie.spec
-    is-tiny-requires
-    write-signed-requires
-    same-length
+    (λ c κs. search needs)
+    (λ c κs. search needs)
+    (λ c. search needs)
     returns
-    integer-width-requires
-    doublings-requires
+    (λ c κs. search needs)
+    (λ c κs. search needs)
     add-out
     slice-write-out
-    add-write-signed
-    write-signed-requires-2
+    (λ c. search needs)
+    (λ c κs. search needs)
     same-length-2
     returns-2)

@@ -8,25 +8,10 @@ use Rattle.packstream.proofs.Answers.{value-too-long, value-not-long, r
 use Rattle.packstream.proofs.read.read_at.Statement.{statement}
 use Rattle.packstream.proofs.read.read_at.Tie as tie
 
-refused-requires : tie.Need-refused-requires
-refused-requires c κs = search needs
-
 returns : tie.Need-returns
 returns c =
     let a = c .before .before .before .args in
     ap told (c .refused .ensures) ∙ ap tellValue (value-too-long (a .message .now) (a .depth) (a .at) (c .before .if1 .taken))
-
-read-through-requires : tie.Need-read-through-requires
-read-through-requires c κs = search needs
-
-enum-known-end : tie.Need-enum-known-end
-enum-known-end c = search needs
-
-peek-requires : tie.Need-peek-requires
-peek-requires c κs = search needs
-
-enum-known-head : tie.Need-enum-known-head
-enum-known-head c = search needs
 
 -- the value was read through
 ended : (c : tie.After-end) → let a = c .before .before .before .before .before .args in S.To (c .end .given .0 .0) ≡ stepOf (valueAt (a .message .now) (a .depth) (a .at))
@@ -35,20 +20,11 @@ ended c = sym (c .end .given .1) ∙ c .before .before .read-through .ensures
 enum-told : tie.Need-enum-told
 enum-told c = search needs
 
-refused-requires-2 : tie.Need-refused-requires-2
-refused-requires-2 c κs = search needs
-
 returns-2 : tie.Need-returns-2
 returns-2 c =
     let s = c .before .before .before .before .before .before .before .before .before .before in
     let a = s .args in
     absurd (read-no-head (a .message .now) (a .depth) (a .at) (s .pre) _ (ended (c .before .before .before .before .before)) (sym (c .before .enum-told .given .1) ∙ c .before .before .before .peek .ensures))
-
-enum-known-refusal : tie.Need-enum-known-refusal
-enum-known-refusal c = search needs
-
-refused-requires-3 : tie.Need-refused-requires-3
-refused-requires-3 c κs = search needs
 
 returns-3 : tie.Need-returns-3
 returns-3 c =
@@ -68,16 +44,16 @@ pub read-at-spec : {M : Type 1} → statement M
 read-at-spec =
     tie.close
     (tie.spec
-    refused-requires
+    (λ c κs. search needs)
     returns
-    read-through-requires
-    enum-known-end
-    peek-requires
-    enum-known-head
+    (λ c κs. search needs)
+    (λ c. search needs)
+    (λ c κs. search needs)
+    (λ c. search needs)
     enum-told
-    refused-requires-2
+    (λ c κs. search needs)
     returns-2
-    enum-known-refusal
-    refused-requires-3
+    (λ c. search needs)
+    (λ c κs. search needs)
     returns-3
     returns-4)

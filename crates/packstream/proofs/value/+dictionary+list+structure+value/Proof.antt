@@ -7,7 +7,7 @@ use borrow.Author.Needs.{needs}
 use borrow.Fn.Kinds.{In}
 use borrow.Fn.PlainCycle.{Measures, is, falls, and}
 use lib.ListN.{length, take, length-set}
-use Rattle.packstream.specs.Decode.{items, extentAt, valueAt}
+use Rattle.packstream.specs.Decode.{extentAt, valueAt}
 use Rattle.packstream.specs.Keys.{keysOf, KeysInside}
 use Rattle.packstream.specs.Reading.{stepOf}
 use Rattle.packstream.specs.declared.marker.Container.the-variants as C

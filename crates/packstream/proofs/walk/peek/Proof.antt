@@ -17,42 +17,18 @@ container : (c : tie.After-extent2) → let g = c .extent2 .given .0 in
     E.Container (g .0) (g .1 .0) (g .1 .1 .0) ≡ extentAt (c .before .before .before .before .args .message .now) mostOpen (c .before .before .before .before .args .at)
 container c = sym (c .extent2 .given .1) ∙ c .before .before .extent-at .ensures
 
-extent-at-requires : tie.Need-extent-at-requires
-extent-at-requires c κs = search needs
-
-enum-known-extent : tie.Need-enum-known-extent
-enum-known-extent c = search needs
-
 leaf-head-requires : tie.Need-leaf-head-requires
 leaf-head-requires c κs =
     let a = c .before .before .before .before .before .args in
     let i = subst (Inside (a .message .now) (a .at)) (sym (leaf (c .before))) (extent-inside (a .message .now) (a .at) mostOpen) in
     (i .inside, i .sized)
 
-enum-known-extent-2 : tie.Need-enum-known-extent-2
-enum-known-extent-2 c = search needs
-
 enum-told : tie.Need-enum-told
 enum-told c = search needs
-
-enum-told-2 : tie.Need-enum-told-2
-enum-told-2 c = search needs
-
-enum-told-3 : tie.Need-enum-told-3
-enum-told-3 c = search needs
 
 returns : tie.Need-returns
 returns c =
     let a = c .before .before .before .before .before .before .before .before .args in peek-no-tag (a .message .now) (a .at) _ _ _ (container (c .before .before .before .before)) (c .before .enum-told3 .given .1) (c .if1 .taken)
-
-shared-slice-read-t18 : tie.Need-shared-slice-read-t18
-shared-slice-read-t18 c = search needs
-
-add-t15 : tie.Need-add-t15
-add-t15 c = search needs
-
-enum-told-4 : tie.Need-enum-told-4
-enum-told-4 c = search needs
 
 returns-2 : tie.Need-returns-2
 returns-2 c = let a = c .before .before .before .before .before .before .args in ap P.Value (c .leaf-head .ensures) ∙ peek-leaf (a .message .now) (a .at) _ _ _ (leaf (c .before .before))
@@ -74,17 +50,17 @@ pub peek-spec : {M : Type 1} → statement M
 peek-spec =
     tie.close
     (tie.spec
-    extent-at-requires
-    enum-known-extent
+    (λ c κs. search needs)
+    (λ c. search needs)
     leaf-head-requires
-    enum-known-extent-2
+    (λ c. search needs)
     enum-told
-    enum-told-2
-    enum-told-3
+    (λ c. search needs)
+    (λ c. search needs)
     returns
-    shared-slice-read-t18
-    add-t15
-    enum-told-4
+    (λ c. search needs)
+    (λ c. search needs)
+    (λ c. search needs)
     returns-2
     returns-3
     returns-4

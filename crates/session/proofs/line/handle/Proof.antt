@@ -11,31 +11,13 @@ use Rattle.session.proofs.Replies.{unmoved, went-on, came-to-end, sessi
 use Rattle.session.proofs.line.handle.Statement.{statement}
 use Rattle.session.proofs.line.handle.Tie as tie
 
-reply-to-requires : tie.Need-reply-to-requires
-reply-to-requires c κs = search needs
-
-reply-length-requires : tie.Need-reply-length-requires
-reply-length-requires c κs = search needs
-
 returns : tie.Need-returns
 returns c =
     let r = c .before .before in
     unmoved _ _ _ (r .reply-to .result) (r .reply-to .ensures .0) _ (omega (arith, c .before .reply-length .ensures, c .if1 .taken))
 
-put-reply-requires : tie.Need-put-reply-requires
-put-reply-requires c κs = search needs
-
 enum-told : tie.Need-enum-told
 enum-told c = search needs
-
-enum-told-2 : tie.Need-enum-told-2
-enum-told-2 c = search needs
-
-enum-told-3 : tie.Need-enum-told-3
-enum-told-3 c = search needs
-
-same-length : tie.Need-same-length
-same-length c = search needs
 
 returns-2 : tie.Need-returns-2
 returns-2 c =
@@ -50,9 +32,6 @@ returns-2 c =
     let h : length (written (replied r)) ≤ length (s .args .out .now) = omega (arith, n, i .if1 .left) in
     (went-on _ _ _ r e _ n (ap (λ (x : Ending). isIdle (endOf x)) (c .enum-told .given .1)) h, (session-after _ _ _ r e _ h, text-after _ _ _ r e _ _ h (p .put-reply .ensures)))
 
-same-length-2 : tie.Need-same-length-2
-same-length-2 c = search needs
-
 returns-3 : tie.Need-returns-3
 returns-3 c =
     let s = c .before .before .before .before .before .before .before .before .before .before .before .before .before in
@@ -65,9 +44,6 @@ returns-3 c =
     let n = u .reply-length .ensures in
     let h : length (written (replied r)) ≤ length (s .args .out .now) = omega (arith, n, i .if1 .left) in
     (came-to-end _ _ _ r e _ n (ap (λ (x : Ending). isIdle (endOf x)) (c .enum-told2 .given .1)) h, (session-after _ _ _ r e _ h, text-after _ _ _ r e _ _ h (p .put-reply .ensures)))
-
-same-length-3 : tie.Need-same-length-3
-same-length-3 c = search needs
 
 returns-4 : tie.Need-returns-4
 returns-4 c =
@@ -86,16 +62,16 @@ pub handle-spec : {M : Type 1} → statement M
 handle-spec =
     tie.close
     (tie.spec
-    reply-to-requires
-    reply-length-requires
+    (λ c κs. search needs)
+    (λ c κs. search needs)
     returns
-    put-reply-requires
+    (λ c κs. search needs)
     enum-told
-    enum-told-2
-    enum-told-3
-    same-length
+    (λ c. search needs)
+    (λ c. search needs)
+    (λ c. search needs)
     returns-2
-    same-length-2
+    (λ c. search needs)
     returns-3
-    same-length-3
+    (λ c. search needs)
     returns-4)

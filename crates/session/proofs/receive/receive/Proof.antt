@@ -12,32 +12,8 @@ use Rattle.session.proofs.receive.receive.Tie as tie
 returns : tie.Need-returns
 returns c = brought-long _ _ _ (omega arith)
 
-receive-long-requires : tie.Need-receive-long-requires
-receive-long-requires c κs = search needs
-
-returns-2 : tie.Need-returns-2
-returns-2 c = search needs
-
-receive-short-requires : tie.Need-receive-short-requires
-receive-short-requires c κs = search needs
-
 enum-told : tie.Need-enum-told
 enum-told c = search needs
-
-enum-known-received : tie.Need-enum-known-received
-enum-known-received c = search needs
-
-enum-known-received-2 : tie.Need-enum-known-received-2
-enum-known-received-2 c = search needs
-
-number-requires : tie.Need-number-requires
-number-requires c κs = search needs
-
-receive-long-requires-2 : tie.Need-receive-long-requires-2
-receive-long-requires-2 c κs = search needs
-
-returns-3 : tie.Need-returns-3
-returns-3 c = search needs
 
 returns-4 : tie.Need-returns-4
 returns-4 c =
@@ -60,15 +36,15 @@ receive-spec =
     tie.close
     (tie.spec
     returns
-    receive-long-requires
-    returns-2
-    receive-short-requires
+    (λ c κs. search needs)
+    (λ c. search needs)
+    (λ c κs. search needs)
     enum-told
-    enum-known-received
-    enum-known-received-2
-    number-requires
-    receive-long-requires-2
-    returns-3
+    (λ c. search needs)
+    (λ c. search needs)
+    (λ c κs. search needs)
+    (λ c κs. search needs)
+    (λ c. search needs)
     returns-4
     returns-5
     returns-6)

@@ -23,15 +23,6 @@ total s = length (s .args .bytes .now)
 abbrev frame : tie.Start → Answer Reading
 frame s = frameOf (keepsAlive (minor s)) (length (s .args .message .now)) (s .args .bytes .now)
 
-read-frame-requires : tie.Need-read-frame-requires
-read-frame-requires c κs = search needs
-
-enum-known-length : tie.Need-enum-known-length
-enum-known-length c = search needs
-
-same-length : tie.Need-same-length
-same-length c = search needs
-
 returns : tie.Need-returns
 returns c =
     let s = c .before .before .before .before .before .before .before .before .before .before in
@@ -39,38 +30,20 @@ returns c =
     let l = c .before .before in
     message-more (minor s) (total s) (s .args .message .now) _ (frame s) (l .length .given .0 .0) (l .length .given .0 .1 .0) (sym (ap told (l .length .given .1)) ∙ r .read-frame .ensures .0) (r .read-frame .ensures .1) (omega arith)
 
-sub-receive-message : tie.Need-sub-receive-message
-sub-receive-message c = search needs
-
-part-receive-message-start : tie.Need-part-receive-message-start
-part-receive-message-start c = search needs
-
 part-receive-message-end : tie.Need-part-receive-message-end
 part-receive-message-end c =
     let r = c .before .before .before .before .before .before .before in
     let l = c .before .before .before in
     omega (arith, told-fits _ _ _ (sym (ap told (l .length .given .1)) ∙ r .read-frame .ensures .0))
 
-receive-message-requires : tie.Need-receive-message-requires
-receive-message-requires c κs = search needs
-
 enum-told : tie.Need-enum-told
 enum-told c = search needs
-
-same-length-2 : tie.Need-same-length-2
-same-length-2 c = search needs
 
 returns-2 : tie.Need-returns-2
 returns-2 c =
     let s = c .before .before .before .before .before .before .before .before .before in
     let r = c .before .before .before .before .before in
     keep-alive-more (minor s) (total s) (frame s) (sym (ap told (c .before .enum-told .given .1)) ∙ r .read-frame .ensures .0) (omega arith)
-
-enum-known-why : tie.Need-enum-known-why
-enum-known-why c = search needs
-
-same-length-3 : tie.Need-same-length-3
-same-length-3 c = search needs
 
 returns-3 : tie.Need-returns-3
 returns-3 c =
@@ -79,17 +52,11 @@ returns-3 c =
     let l = c .before .before .before .before .before in
     message-alone (minor s) (total s) (s .args .message .now) _ (frame s) (l .length .given .0 .0) (l .length .given .0 .1 .0) (sym (ap told (l .length .given .1)) ∙ r .read-frame .ensures .0) (r .read-frame .ensures .1) _ (c .receive-message .ensures) (omega arith)
 
-same-length-4 : tie.Need-same-length-4
-same-length-4 c = search needs
-
 returns-4 : tie.Need-returns-4
 returns-4 c =
     let s = c .before .before .before .before .before .before .before .before .before in
     let r = c .before .before .before .before .before in
     keep-alive-alone (minor s) (total s) (frame s) (sym (ap told (c .before .enum-told .given .1)) ∙ r .read-frame .ensures .0) (omega arith)
-
-same-length-5 : tie.Need-same-length-5
-same-length-5 c = search needs
 
 returns-5 : tie.Need-returns-5
 returns-5 c =
@@ -101,21 +68,21 @@ pub receive-frame-spec : {M : Type 1} → statement M
 receive-frame-spec =
     tie.close
     (tie.spec
-    read-frame-requires
-    enum-known-length
-    same-length
+    (λ c κs. search needs)
+    (λ c. search needs)
+    (λ c. search needs)
     returns
-    sub-receive-message
-    part-receive-message-start
+    (λ c. search needs)
+    (λ c. search needs)
     part-receive-message-end
-    receive-message-requires
+    (λ c κs. search needs)
     enum-told
-    same-length-2
+    (λ c. search needs)
     returns-2
-    enum-known-why
-    same-length-3
+    (λ c. search needs)
+    (λ c. search needs)
     returns-3
-    same-length-4
+    (λ c. search needs)
     returns-4
-    same-length-5
+    (λ c. search needs)
     returns-5)

@@ -9,28 +9,10 @@ use Rattle.session.proofs.Receiving.{enough, is-line, is-none, its-byte
 use Rattle.session.proofs.receive.receive_handshake.Statement.{statement}
 use Rattle.session.proofs.receive.receive_handshake.Tie as tie
 
-slice-aggregate-decode : tie.Need-slice-aggregate-decode
-slice-aggregate-decode c = search needs
-
-decode-requires : tie.Need-decode-requires
-decode-requires c κs = search needs
-
-enum-known-n : tie.Need-enum-known-n
-enum-known-n c = search needs
-
-sub-agree : tie.Need-sub-agree
-sub-agree c = search needs
-
-part-agree-start : tie.Need-part-agree-start
-part-agree-start c = search needs
-
 part-agree-end : tie.Need-part-agree-end
 part-agree-end c =
     let d = c .before .before .before .before .before in
     omega (arith, decoded-fits _ _ (sym (ap bytesTold (c .before .before .n .given .1)) ∙ d .decode .ensures .0))
-
-agree-requires : tie.Need-agree-requires
-agree-requires c κs = search needs
 
 enum-told : tie.Need-enum-told
 enum-told c = search needs
@@ -55,13 +37,13 @@ pub receive-handshake-spec : {M : Type 1} → statement M
 receive-handshake-spec =
     tie.close
     (tie.spec
-    slice-aggregate-decode
-    decode-requires
-    enum-known-n
-    sub-agree
-    part-agree-start
+    (λ c. search needs)
+    (λ c κs. search needs)
+    (λ c. search needs)
+    (λ c. search needs)
+    (λ c. search needs)
     part-agree-end
-    agree-requires
+    (λ c κs. search needs)
     enum-told
     returns
     returns-2)

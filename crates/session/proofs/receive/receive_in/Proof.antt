@@ -11,34 +11,13 @@ use Rattle.session.proofs.Receiving.{is-line, is-none, its-bytes, broug
 use Rattle.session.proofs.receive.receive_in.Statement.{statement}
 use Rattle.session.proofs.receive.receive_in.Tie as tie
 
-decode-requires : tie.Need-decode-requires
-decode-requires c κs = search needs
-
-enum-known-n : tie.Need-enum-known-n
-enum-known-n c = search needs
-
-sub-receive-frame : tie.Need-sub-receive-frame
-sub-receive-frame c = search needs
-
-part-receive-frame-start : tie.Need-part-receive-frame-start
-part-receive-frame-start c = search needs
-
 part-receive-frame-end : tie.Need-part-receive-frame-end
 part-receive-frame-end c =
     let d = c .before .before .before .before .before .before in
     omega (arith, decoded-fits _ _ (sym (ap bytesTold (c .before .before .n .given .1)) ∙ d .decode .ensures .0))
 
-receive-frame-requires : tie.Need-receive-frame-requires
-receive-frame-requires c κs = search needs
-
 enum-told : tie.Need-enum-told
 enum-told c = search needs
-
-same-length : tie.Need-same-length
-same-length c = search needs
-
-same-length-2 : tie.Need-same-length-2
-same-length-2 c = search needs
 
 returns : tie.Need-returns
 returns c =
@@ -50,9 +29,6 @@ returns c =
     let d : result (n .n .given .0 .0) ≡ counted (decoding room line) = sym (ap bytesTold (n .n .given .1)) ∙ e .decode .ensures .0 in
     let l : length line / 2 ≤ room = s .pre in
     c .before .before .receive-frame .ensures ∙ brought-line (length (s .args .message .now)) (s .args .version .minor) line _ (is-line line room (λ _. l) _ d) (its-bytes line room (λ _. l) _ _ _ d (e .decode .ensures .1))
-
-same-length-3 : tie.Need-same-length-3
-same-length-3 c = search needs
 
 returns-2 : tie.Need-returns-2
 returns-2 c =
@@ -66,15 +42,15 @@ pub receive-in-spec : {M : Type 1} → statement M
 receive-in-spec =
     tie.close
     (tie.spec
-    decode-requires
-    enum-known-n
-    sub-receive-frame
-    part-receive-frame-start
+    (λ c κs. search needs)
+    (λ c. search needs)
+    (λ c. search needs)
+    (λ c. search needs)
     part-receive-frame-end
-    receive-frame-requires
+    (λ c κs. search needs)
     enum-told
-    same-length
-    same-length-2
+    (λ c. search needs)
+    (λ c. search needs)
     returns
-    same-length-3
+    (λ c. search needs)
     returns-2)

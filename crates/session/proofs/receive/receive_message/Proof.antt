@@ -6,18 +6,6 @@ use Rattle.session.specs.Receiving.{request, arriving}
 use Rattle.session.proofs.receive.receive_message.Statement.{statement}
 use Rattle.session.proofs.receive.receive_message.Tie as tie
 
-read-request-requires : tie.Need-read-request-requires
-read-request-requires c κs = search needs
-
-enum-known-request : tie.Need-enum-known-request
-enum-known-request c = search needs
-
-arrival-of-requires : tie.Need-arrival-of-requires
-arrival-of-requires c κs = search needs
-
-enum-known-fault : tie.Need-enum-known-fault
-enum-known-fault c = search needs
-
 returns : tie.Need-returns
 returns c =
     let r = c .before .before .before .before in
@@ -30,9 +18,9 @@ pub receive-message-spec : {M : Type 1} → statement M
 receive-message-spec =
     tie.close
     (tie.spec
-    read-request-requires
-    enum-known-request
-    arrival-of-requires
-    enum-known-fault
+    (λ c κs. search needs)
+    (λ c. search needs)
+    (λ c κs. search needs)
+    (λ c. search needs)
     returns
     returns-2)

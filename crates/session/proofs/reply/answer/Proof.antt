@@ -6,26 +6,8 @@ use Rattle.session.specs.Session.{answering}
 use Rattle.session.proofs.reply.answer.Statement.{statement}
 use Rattle.session.proofs.reply.answer.Tie as tie
 
-receive-requires : tie.Need-receive-requires
-receive-requires c κs = search needs
-
 enum-told : tie.Need-enum-told
 enum-told c = search needs
-
-stop-requires : tie.Need-stop-requires
-stop-requires c κs = search needs
-
-enum-known-request : tie.Need-enum-known-request
-enum-known-request c = search needs
-
-request-requires : tie.Need-request-requires
-request-requires c κs = search needs
-
-enum-known-why : tie.Need-enum-known-why
-enum-known-why c = search needs
-
-refuse-requires : tie.Need-refuse-requires
-refuse-requires c κs = search needs
 
 returns : tie.Need-returns
 returns c =
@@ -46,13 +28,13 @@ pub answer-spec : {M : Type 1} → statement M
 answer-spec =
     tie.close
     (tie.spec
-    receive-requires
+    (λ c κs. search needs)
     enum-told
-    stop-requires
-    enum-known-request
-    request-requires
-    enum-known-why
-    refuse-requires
+    (λ c κs. search needs)
+    (λ c. search needs)
+    (λ c κs. search needs)
+    (λ c. search needs)
+    (λ c κs. search needs)
     returns
     returns-2
     returns-3)

@@ -7,21 +7,6 @@ use Rattle.session.proofs.Replies.{agreed-on}
 use Rattle.session.proofs.reply.greet.Statement.{statement}
 use Rattle.session.proofs.reply.greet.Tie as tie
 
-receive-handshake-requires : tie.Need-receive-handshake-requires
-receive-handshake-requires c κs = search needs
-
-enum-known-version : tie.Need-enum-known-version
-enum-known-version c = search needs
-
-stop-requires : tie.Need-stop-requires
-stop-requires c κs = search needs
-
-enum-known-why : tie.Need-enum-known-why
-enum-known-why c = search needs
-
-turn-away-requires : tie.Need-turn-away-requires
-turn-away-requires c κs = search needs
-
 returns : tie.Need-returns
 returns c =
     let r = c .before .before .before .before in
@@ -36,10 +21,10 @@ pub greet-spec : {M : Type 1} → statement M
 greet-spec =
     tie.close
     (tie.spec
-    receive-handshake-requires
-    enum-known-version
-    stop-requires
-    enum-known-why
-    turn-away-requires
+    (λ c κs. search needs)
+    (λ c. search needs)
+    (λ c κs. search needs)
+    (λ c. search needs)
+    (λ c κs. search needs)
     returns
     returns-2)

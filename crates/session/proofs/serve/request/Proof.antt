@@ -5,26 +5,8 @@ use Rattle.session.proofs.Turns.{arrived}
 use Rattle.session.proofs.serve.request.Statement.{statement}
 use Rattle.session.proofs.serve.request.Tie as tie
 
-arrive-requires : tie.Need-arrive-requires
-arrive-requires c κs = search needs
-
 enum-told : tie.Need-enum-told
 enum-told c = search needs
-
-serve-requires : tie.Need-serve-requires
-serve-requires c κs = search needs
-
-enum-told-2 : tie.Need-enum-told-2
-enum-told-2 c = search needs
-
-stop-requires : tie.Need-stop-requires
-stop-requires c κs = search needs
-
-enum-known-answer : tie.Need-enum-known-answer
-enum-known-answer c = search needs
-
-refuse-requires : tie.Need-refuse-requires
-refuse-requires c κs = search needs
 
 returns : tie.Need-returns
 returns c =
@@ -45,13 +27,13 @@ pub request-spec : {M : Type 1} → statement M
 request-spec =
     tie.close
     (tie.spec
-    arrive-requires
+    (λ c κs. search needs)
     enum-told
-    serve-requires
-    enum-told-2
-    stop-requires
-    enum-known-answer
-    refuse-requires
+    (λ c κs. search needs)
+    (λ c. search needs)
+    (λ c κs. search needs)
+    (λ c. search needs)
+    (λ c κs. search needs)
     returns
     returns-2
     returns-3)

@@ -20,24 +20,6 @@ abbrev μ-loop : tie.MeasureT-loop
 loop-holds : tie.Need-loop-holds Inv-loop μ-loop
 loop-holds c = serves-none _ _ refl
 
-turn-requires : tie.Need-turn-requires Inv-loop μ-loop
-turn-requires c κs = search needs
-
-enum-known-answer : tie.Need-enum-known-answer Inv-loop μ-loop
-enum-known-answer c = search needs
-
-mul-sent : tie.Need-mul-sent Inv-loop μ-loop
-mul-sent c = search needs
-
-array-set-from-sent : tie.Need-array-set-from-sent Inv-loop μ-loop
-array-set-from-sent c = search needs
-
-add-count : tie.Need-add-count Inv-loop μ-loop
-add-count c = search needs
-
-loop-less : tie.Need-loop-less Inv-loop μ-loop
-loop-less c = search needs
-
 loop-again : tie.Need-loop-again Inv-loop μ-loop
 loop-again c =
     let t = c .before .before .before .before in
@@ -54,9 +36,6 @@ returns c =
     let t = c .before .before .before .before in
     (c .ended .ensures .0 ∙ serves-done (t .before .before .loop .inv) (omega arith) (t .turn .result) _ E.Idle _ (t .turn .ensures) (c .before .enum-told .given .1) refl, c .ended .ensures .1)
 
-enum-told-2 : tie.Need-enum-told-2 Inv-loop μ-loop
-enum-told-2 c = search needs
-
 ended-requires-2 : tie.Need-ended-requires-2 Inv-loop μ-loop
 ended-requires-2 c κs = c .before .before .before .before .before .loop .inv .few
 
@@ -65,9 +44,6 @@ returns-2 c =
     let t = c .before .before .before .before in
     (c .ended2 .ensures .0 ∙ serves-done (t .before .before .loop .inv) (omega arith) (t .turn .result) _ E.Idle _ (t .turn .ensures) (c .before .enum-told2 .given .1) refl, c .ended2 .ensures .1)
 
-enum-told-3 : tie.Need-enum-told-3 Inv-loop μ-loop
-enum-told-3 c = search needs
-
 ended-requires-3 : tie.Need-ended-requires-3 Inv-loop μ-loop
 ended-requires-3 c κs = c .before .before .before .before .before .loop .inv .few
 
@@ -75,12 +51,6 @@ returns-3 : tie.Need-returns-3 Inv-loop μ-loop
 returns-3 c =
     let t = c .before .before .before .before in
     (c .ended3 .ensures .0 ∙ serves-done (t .before .before .loop .inv) (omega arith) (t .turn .result) _ E.Closed _ (t .turn .ensures) (c .before .enum-told3 .given .1) refl, c .ended3 .ensures .1)
-
-enum-known-answer-2 : tie.Need-enum-known-answer-2 Inv-loop μ-loop
-enum-known-answer-2 c = search needs
-
-after-refusal-requires : tie.Need-after-refusal-requires Inv-loop μ-loop
-after-refusal-requires c κs = search needs
 
 ended-requires-4 : tie.Need-ended-requires-4 Inv-loop μ-loop
 ended-requires-4 c κs = c .before .before .before .before .before .before .before .loop .inv .few
@@ -105,24 +75,24 @@ serve-spec =
     Inv-loop
     μ-loop
     loop-holds
-    turn-requires
-    enum-known-answer
-    mul-sent
-    array-set-from-sent
-    add-count
-    loop-less
+    (λ c κs. search needs)
+    (λ c. search needs)
+    (λ c. search needs)
+    (λ c. search needs)
+    (λ c. search needs)
+    (λ c. search needs)
     loop-again
     enum-told
     ended-requires
     returns
-    enum-told-2
+    (λ c. search needs)
     ended-requires-2
     returns-2
-    enum-told-3
+    (λ c. search needs)
     ended-requires-3
     returns-3
-    enum-known-answer-2
-    after-refusal-requires
+    (λ c. search needs)
+    (λ c κs. search needs)
     ended-requires-4
     returns-4
     ended-requires-5

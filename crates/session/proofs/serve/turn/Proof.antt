@@ -5,26 +5,8 @@ use Rattle.session.proofs.Turns.{turned}
 use Rattle.session.proofs.serve.turn.Statement.{statement}
 use Rattle.session.proofs.serve.turn.Tie as tie
 
-take-requires : tie.Need-take-requires
-take-requires c κs = search needs
-
 enum-told : tie.Need-enum-told
 enum-told c = search needs
-
-succeed-requires : tie.Need-succeed-requires
-succeed-requires c κs = search needs
-
-enum-told-2 : tie.Need-enum-told-2
-enum-told-2 c = search needs
-
-enum-told-3 : tie.Need-enum-told-3
-enum-told-3 c = search needs
-
-enum-told-4 : tie.Need-enum-told-4
-enum-told-4 c = search needs
-
-enum-told-5 : tie.Need-enum-told-5
-enum-told-5 c = search needs
 
 returns : tie.Need-returns
 returns c = let d = c .before .before .before .before in c .succeed .ensures ∙ turned _ (d .take .result) _ (d .take .ensures) (c .before .before .enum-told .given .1)
@@ -45,13 +27,13 @@ pub turn-spec : {M : Type 1} → statement M
 turn-spec =
     tie.close
     (tie.spec
-    take-requires
+    (λ c κs. search needs)
     enum-told
-    succeed-requires
-    enum-told-2
-    enum-told-3
-    enum-told-4
-    enum-told-5
+    (λ c κs. search needs)
+    (λ c. search needs)
+    (λ c. search needs)
+    (λ c. search needs)
+    (λ c. search needs)
     returns
     returns-2
     returns-3

@@ -17,18 +17,6 @@ use Rattle.session.proofs.write.put_end.Tie as tie
 enum-told : tie.Need-enum-told
 enum-told c = search needs
 
-enum-told-2 : tie.Need-enum-told-2
-enum-told-2 c = search needs
-
-enum-known-ending : tie.Need-enum-known-ending
-enum-known-ending c = search needs
-
-number-requires : tie.Need-number-requires
-number-requires c κs = search needs
-
-slice-aggregate-put-line : tie.Need-slice-aggregate-put-line
-slice-aggregate-put-line c = search needs
-
 put-line-requires : tie.Need-put-line-requires
 put-line-requires c κs =
     let s = c .before .before .before .before .before .before .before in
@@ -40,9 +28,6 @@ returns c = none-put _ _ _ (ap (λ (x : Ending). text (endLines (endOf x))) (c .
 
 returns-2 : tie.Need-returns-2
 returns-2 c = none-put _ _ _ (ap (λ (x : Ending). text (endLines (endOf x))) (c .enum-told2 .given .1) ∙ text-none)
-
-same-length : tie.Need-same-length
-same-length c = search needs
 
 returns-3 : tie.Need-returns-3
 returns-3 c =
@@ -56,12 +41,12 @@ put-end-spec =
     tie.close
     (tie.spec
     enum-told
-    enum-told-2
-    enum-known-ending
-    number-requires
-    slice-aggregate-put-line
+    (λ c. search needs)
+    (λ c. search needs)
+    (λ c κs. search needs)
+    (λ c. search needs)
     put-line-requires
     returns
     returns-2
-    same-length
+    (λ c. search needs)
     returns-3)

@@ -15,26 +15,11 @@ use Rattle.session.proofs.write.put_opening.Tie as tie
 enum-told : tie.Need-enum-told
 enum-told c = search needs
 
-enum-known-opening : tie.Need-enum-known-opening
-enum-known-opening c = search needs
-
-to-bytes-requires : tie.Need-to-bytes-requires
-to-bytes-requires c κs = search needs
-
-slice-aggregate-put-line : tie.Need-slice-aggregate-put-line
-slice-aggregate-put-line c = search needs
-
 put-line-requires : tie.Need-put-line-requires
 put-line-requires c κs =
     let s = c .before .before .before .before .before .before .before in
     let o = c .before .before .before .before in
     omega (arith, ap length (ap (λ (x : Opening). text (openingLines x)) (o .opening .given .1) ∙ text-one (bytesOf (o .opening .given .0 .0 .minor))), length-line (bytesOf (o .opening .given .0 .0 .minor)), s .pre)
-
-enum-told-2 : tie.Need-enum-told-2
-enum-told-2 c = search needs
-
-slice-aggregate-put-line-2 : tie.Need-slice-aggregate-put-line-2
-slice-aggregate-put-line-2 c = search needs
 
 put-line-requires-2 : tie.Need-put-line-requires-2
 put-line-requires-2 c κs =
@@ -46,9 +31,6 @@ returns c =
     let s = c .before .before .before in
     at-front (text (openingLines (s .args .opening))) (s .args .out .now) _ _ (none-put _ _ _ (ap (λ (x : Opening). text (openingLines x)) (c .enum-told .given .1) ∙ text-none))
 
-same-length : tie.Need-same-length
-same-length c = search needs
-
 returns-2 : tie.Need-returns-2
 returns-2 c =
     let s = c .before .before .before .before .before .before .before .before .before .before in
@@ -56,9 +38,6 @@ returns-2 c =
     let t = c .before .before .before .before .before in
     let p = c .before .before in
     at-front (text (openingLines (s .args .opening))) (s .args .out .now) _ _ (one-put _ _ _ _ _ _ (ap (λ (x : Opening). text (openingLines x)) (o .opening .given .1) ∙ text-one _ ∙ ap lineText (sym (t .to-bytes .ensures))) (p .put-line .ensures .0) (p .put-line .ensures .1))
-
-same-length-2 : tie.Need-same-length-2
-same-length-2 c = search needs
 
 returns-3 : tie.Need-returns-3
 returns-3 c =
@@ -72,15 +51,15 @@ put-opening-spec =
     tie.close
     (tie.spec
     enum-told
-    enum-known-opening
-    to-bytes-requires
-    slice-aggregate-put-line
+    (λ c. search needs)
+    (λ c κs. search needs)
+    (λ c. search needs)
     put-line-requires
-    enum-told-2
-    slice-aggregate-put-line-2
+    (λ c. search needs)
+    (λ c. search needs)
     put-line-requires-2
     returns
-    same-length
+    (λ c. search needs)
     returns-2
-    same-length-2
+    (λ c. search needs)
     returns-3)

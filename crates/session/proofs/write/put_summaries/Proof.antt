@@ -16,23 +16,11 @@ abbrev μ-loop : tie.MeasureT-loop
 loop-holds : tie.Need-loop-holds Inv-loop μ-loop
 loop-holds c = let l = c .before .good .0 .1 .0 .1 in puts-none _ _ _ _ (omega arith)
 
-mul-next : tie.Need-mul-next Inv-loop μ-loop
-mul-next c = search needs
-
-array-copy-out-next : tie.Need-array-copy-out-next Inv-loop μ-loop
-array-copy-out-next c = search needs
-
 put-summary-requires : tie.Need-put-summary-requires Inv-loop μ-loop
 put-summary-requires c κs =
     let s = c .before .before .before .before .before in
     let l = c .before .before .before in
     puts-fits (l .loop .inv) (record { summary = Ignored }) (omega arith) (s .pre .1)
-
-add-i : tie.Need-add-i Inv-loop μ-loop
-add-i c = search needs
-
-loop-less : tie.Need-loop-less Inv-loop μ-loop
-loop-less c = search needs
 
 loop-again : tie.Need-loop-again Inv-loop μ-loop
 loop-again c =
@@ -53,11 +41,11 @@ put-summaries-spec =
     Inv-loop
     μ-loop
     loop-holds
-    mul-next
-    array-copy-out-next
+    (λ c. search needs)
+    (λ c. search needs)
     put-summary-requires
-    add-i
-    loop-less
+    (λ c. search needs)
+    (λ c. search needs)
     loop-again
     same-length
     returns)

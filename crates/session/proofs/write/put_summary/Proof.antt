@@ -21,15 +21,6 @@ framed d =
     let w = d .before .before .before in
     chunk-bytes (w .before .before .before .before .before .before .before .before .before .before .before .args .summary) _ (replicate 84 0) _ (w .write-chunks .result) (packed (d .before .before .before .before .before .before .before .before)) (w .write-chunks .ensures .0) (w .write-chunks .ensures .1) (omega arith) _ (d .n .given .1)
 
-slice-aggregate-pack-summary : tie.Need-slice-aggregate-pack-summary
-slice-aggregate-pack-summary c = search needs
-
-pack-summary-requires : tie.Need-pack-summary-requires
-pack-summary-requires c κs = search needs
-
-enum-known-size : tie.Need-enum-known-size
-enum-known-size c = search needs
-
 enum-told : tie.Need-enum-told
 enum-told c = search needs
 
@@ -38,39 +29,15 @@ returns c =
     let p = c .before .before .before in
     absurd (not-packed (p .before .before .before .args .summary) (replicate 80 0) _ (p .pack-summary .result) (p .pack-summary .ensures) (omega arith) _ (c .enum-told .given .1))
 
-sub-write-chunks : tie.Need-sub-write-chunks
-sub-write-chunks c = search needs
-
-part-write-chunks-start : tie.Need-part-write-chunks-start
-part-write-chunks-start c = search needs
-
 part-write-chunks-end : tie.Need-part-write-chunks-end
 part-write-chunks-end c =
     let p = c .before .before .before .before .before in
     omega (arith, packed-fits (p .before .before .before .args .summary) (replicate 80 0) _ (p .pack-summary .result) (p .pack-summary .ensures) (omega arith) _ (c .before .before .size .given .1))
 
-slice-aggregate-write-chunks : tie.Need-slice-aggregate-write-chunks
-slice-aggregate-write-chunks c = search needs
-
-write-chunks-requires : tie.Need-write-chunks-requires
-write-chunks-requires c κs = search needs
-
-enum-known-n : tie.Need-enum-known-n
-enum-known-n c = search needs
-
-enum-told-2 : tie.Need-enum-told-2
-enum-told-2 c = search needs
-
 returns-2 : tie.Need-returns-2
 returns-2 c =
     let w = c .before .before .before in
     absurd (not-written (w .before .before .before .before .before .before .before .before .before .before .before .args .summary) _ (replicate 84 0) _ (w .write-chunks .result) (packed (c .before .before .before .before .before .before .before .before)) (w .write-chunks .ensures .0) (w .write-chunks .ensures .1) (omega arith) _ (c .enum-told2 .given .1))
-
-sub-put-line : tie.Need-sub-put-line
-sub-put-line c = search needs
-
-part-put-line-start : tie.Need-part-put-line-start
-part-put-line-start c = search needs
 
 part-put-line-end : tie.Need-part-put-line-end
 part-put-line-end c =
@@ -82,9 +49,6 @@ put-line-requires c κs =
     let s = c .before .before .before .before .before .before .before .before .before .before .before .before .before .before .before .before .before .before in
     omega (arith, s .pre, ap length (framed (c .before .before .before .before)), length-line (summaryLine (s .args .summary)))
 
-same-length : tie.Need-same-length
-same-length c = search needs
-
 returns-3 : tie.Need-returns-3
 returns-3 c = one-put _ _ _ _ _ _ (ap lineText (sym (framed (c .before .before .before .before .before .before .before)))) (c .before .before .put-line .ensures .0) (c .before .before .put-line .ensures .1)
 
@@ -92,22 +56,22 @@ pub put-summary-spec : {M : Type 1} → statement M
 put-summary-spec =
     tie.close
     (tie.spec
-    slice-aggregate-pack-summary
-    pack-summary-requires
-    enum-known-size
+    (λ c. search needs)
+    (λ c κs. search needs)
+    (λ c. search needs)
     enum-told
     returns
-    sub-write-chunks
-    part-write-chunks-start
+    (λ c. search needs)
+    (λ c. search needs)
     part-write-chunks-end
-    slice-aggregate-write-chunks
-    write-chunks-requires
-    enum-known-n
-    enum-told-2
+    (λ c. search needs)
+    (λ c κs. search needs)
+    (λ c. search needs)
+    (λ c. search needs)
     returns-2
-    sub-put-line
-    part-put-line-start
+    (λ c. search needs)
+    (λ c. search needs)
     part-put-line-end
     put-line-requires
-    same-length
+    (λ c. search needs)
     returns-3)

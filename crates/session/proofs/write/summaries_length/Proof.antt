@@ -17,15 +17,6 @@ abbrev μ-loop : tie.MeasureT-loop
 loop-holds : tie.Need-loop-holds Inv-loop μ-loop
 loop-holds c = let l = c .good .0 .1 .0 .1 in counts-none _ _ (omega arith)
 
-mul-next : tie.Need-mul-next Inv-loop μ-loop
-mul-next c = search needs
-
-array-copy-out-next : tie.Need-array-copy-out-next Inv-loop μ-loop
-array-copy-out-next c = search needs
-
-summary-length-requires : tie.Need-summary-length-requires Inv-loop μ-loop
-summary-length-requires c κs = search needs
-
 add-sum : tie.Need-add-sum Inv-loop μ-loop
 add-sum c =
     let s = c .before .before .before .before in
@@ -50,12 +41,6 @@ add-sum-3 c =
     let l = c .before .before .before in
     omega (arith, l .loop .inv .few, l .loop .inv .inside, summary-short (getD (s .args .t1) (l .loop .i) (record { summary = Ignored }) .summary) _ (c .summary-length .ensures))
 
-add-i : tie.Need-add-i Inv-loop μ-loop
-add-i c = search needs
-
-loop-less : tie.Need-loop-less Inv-loop μ-loop
-loop-less c = search needs
-
 loop-again : tie.Need-loop-again Inv-loop μ-loop
 loop-again c =
     let l = c .before .before .before in
@@ -73,14 +58,14 @@ summaries-length-spec =
     Inv-loop
     μ-loop
     loop-holds
-    mul-next
-    array-copy-out-next
-    summary-length-requires
+    (λ c. search needs)
+    (λ c. search needs)
+    (λ c κs. search needs)
     add-sum
     mul-sum
     add-sum-2
     add-sum-3
-    add-i
-    loop-less
+    (λ c. search needs)
+    (λ c. search needs)
     loop-again
     returns)

@@ -9,12 +9,6 @@ use borrow.Author.Needs.{needs}
 use Rattle.vectors.proofs.operands.word_at.Statement.{statement}
 use Rattle.vectors.proofs.operands.word_at.Tie as tie
 
-read-unsigned-requires : tie.Need-read-unsigned-requires
-read-unsigned-requires c κs = search needs
-
-enum-known-n : tie.Need-enum-known-n
-enum-known-n c = search needs
-
 cast-result : tie.Need-cast-result
 cast-result c =
     let k = c .before .before .before .before in
@@ -24,18 +18,6 @@ cast-result c =
     let g : bigEndian (part (a .operands .now) (a .at) 4) < 4294967296 = lies-lt (a .operands .now) (a .at) 4 (λ i. k .shared-slice-known .given i .fits) (f .1) in
     omega (arith, f .0, g)
 
-enum-told : tie.Need-enum-told
-enum-told c = search needs
-
-enum-told-2 : tie.Need-enum-told-2
-enum-told-2 c = search needs
-
-returns : tie.Need-returns
-returns c = search needs
-
-returns-2 : tie.Need-returns-2
-returns-2 c = search needs
-
 returns-3 : tie.Need-returns-3
 returns-3 c = search needs
 
@@ -43,11 +25,11 @@ pub word-at-spec : {M : Type 1} → statement M
 word-at-spec =
     tie.close
     (tie.spec
-    read-unsigned-requires
-    enum-known-n
+    (λ c κs. search needs)
+    (λ c. search needs)
     cast-result
-    enum-told
-    enum-told-2
-    returns
-    returns-2
+    (λ c. search needs)
+    (λ c. search needs)
+    (λ c. search needs)
+    (λ c. search needs)
     returns-3)

@@ -6,12 +6,6 @@ use Rattle.vectors.proofs.Fitting.{end-fits}
 use Rattle.vectors.proofs.packing.pack_summary.Statement.{statement}
 use Rattle.vectors.proofs.packing.pack_summary.Tie as tie
 
-pack-summary-requires : tie.Need-pack-summary-requires
-pack-summary-requires c κs = search needs
-
-same-length : tie.Need-same-length
-same-length c = search needs
-
 returns : tie.Need-returns
 returns c =
     let b = c .before .before in
@@ -21,6 +15,6 @@ pub pack-summary-spec : {M : Type 1} → statement M
 pack-summary-spec =
     tie.close
     (tie.spec
-    pack-summary-requires
-    same-length
+    (λ c κs. search needs)
+    (λ c. search needs)
     returns)

@@ -1,31 +1,18 @@
 -- `Version::from_bytes` meets its contract: each test of a byte is one of the versions' bytes. Assumes nothing.
 use borrow.Author.Needs.{needs}
-use mathlib.Core.Path.{_≡_, refl, sym, ap, _∙_}
 use Rattle.handshake.specs.Version.{among, same}
 use Rattle.handshake.proofs.Proposals.{wrong-first, wrong-second, wrong-major, wrong-minor, right}
 use Rattle.handshake.proofs.version.Version.from_bytes.Statement.{statement}
 use Rattle.handshake.proofs.version.Version.from_bytes.Tie as tie
 
-array-read-if1 : tie.Need-array-read-if1
-array-read-if1 c = search needs
-
 returns : tie.Need-returns
 returns c = wrong-first (c .before .args .t1) (search needs) (c .if1 .taken)
-
-array-read-if2 : tie.Need-array-read-if2
-array-read-if2 c = search needs
 
 returns-2 : tie.Need-returns-2
 returns-2 c = wrong-second (c .before .before .args .t1) (search needs) (c .before .if1 .left) (c .if2 .taken)
 
-array-read-if3 : tie.Need-array-read-if3
-array-read-if3 c = search needs
-
 returns-3 : tie.Need-returns-3
 returns-3 c = wrong-major (c .before .before .before .args .t1) (search needs) (c .before .before .if1 .left) (c .before .if2 .left) (c .if3 .taken)
-
-array-read-minor : tie.Need-array-read-minor
-array-read-minor c = search needs
 
 returns-4 : tie.Need-returns-4
 unfolding among same
@@ -46,13 +33,13 @@ pub from-bytes-spec : {M : Type 1} → statement M
 from-bytes-spec =
     tie.close
     (tie.spec
-    array-read-if1
+    (λ c. search needs)
     returns
-    array-read-if2
+    (λ c. search needs)
     returns-2
-    array-read-if3
+    (λ c. search needs)
     returns-3
-    array-read-minor
+    (λ c. search needs)
     returns-4
     returns-5
     returns-6
