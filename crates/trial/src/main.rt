@@ -44,7 +44,7 @@ fn make_room(out: &[u8], unwritten: usize) -> usize
 
 // Handles the line, whose characters are `text`, and puts what it sends behind what is still to be written.
 fn run_line(
-    before: Progress,
+    session: Session,
     line: Input,
     text: &[u8],
     out: &mut [u8],
@@ -54,7 +54,6 @@ fn run_line(
     ensures { λ r. ⌜ r .unwritten ≤ length (now (out .entry)) ⌝ }
 {
     let used = make_room(out, unwritten);
-    let session = before.session;
     let after = line::handle(session, text, &mut out[used..]);
     let next = after.session;
     let answer = after.answer;
@@ -85,21 +84,21 @@ fn turn(before: Progress, buffer: &mut [u8], out: &mut [u8]) -> Progress
     requires { ⌜ before .unwritten ≤ length (now out) ⌝ }
     ensures { λ r. ⌜ r .unwritten ≤ length (now (out .entry)) ⌝ }
 {
+    let session = before.session;
     let last = before.line;
     let line = input::next_read(buffer, last);
     let start = line.start;
     let end = line.end;
     if line.found {
-        return run_line(before, line, &buffer[start..end], out, before.unwritten);
+        return run_line(session, line, &buffer[start..end], out, before.unwritten);
     }
     flush(out, before.unwritten);
     let line = input::next(buffer, line);
     let start = line.start;
     let end = line.end;
     if line.found {
-        return run_line(before, line, &buffer[start..end], out, 0);
+        return run_line(session, line, &buffer[start..end], out, 0);
     }
-    let session = before.session;
     Progress {
         session: session,
         line: line,

@@ -7,11 +7,11 @@ use borrow.Author.Needs.{needs}
 use Rattle.trial.proofs.run_line.Statement.{statement}
 use Rattle.trial.proofs.run_line.Tie as tie
 
-add-t20 : tie.Need-add-t20
-add-t20 c = omega (arith, told-fits _ _ _ (sym (ap told (c .before .answer .given .1)) ∙ c .before .before .before .before .before .before .handle .ensures .0))
+add-t19 : tie.Need-add-t19
+add-t19 c = omega (arith, told-fits _ _ _ (sym (ap told (c .before .answer .given .1)) ∙ c .before .before .before .before .before .before .handle .ensures .0))
 
-add-t21 : tie.Need-add-t21
-add-t21 c = omega (arith, told-fits _ _ _ (sym (ap told (c .before .answer2 .given .1)) ∙ c .before .before .before .before .before .before .handle .ensures .0))
+add-t20 : tie.Need-add-t20
+add-t20 c = omega (arith, told-fits _ _ _ (sym (ap told (c .before .answer2 .given .1)) ∙ c .before .before .before .before .before .before .handle .ensures .0))
 
 returns : tie.Need-returns
 returns c = omega (arith, told-fits _ _ _ (sym (ap told (c .before .answer .given .1)) ∙ c .before .before .before .before .before .before .handle .ensures .0))
@@ -29,9 +29,9 @@ run-line-spec =
     (λ c. search needs)
     (λ c κs. search needs)
     (λ c. search needs)
-    add-t20
+    add-t19
     (λ c. search needs)
-    add-t21
+    add-t20
     (λ c. search needs)
     (λ c. search needs)
     returns
