@@ -1,148 +1,100 @@
-// Vectors for every layer. Reads lines of upper-case hexadecimal digits to the end of standard input, each one call of a public
-// function, and writes what the call answers as a line of its own. Numbers are big-endian, the first byte of a line is the operation:
+// Vectors for the layers from the handshake to the summaries. Reads lines to the end of standard input, each one call of a public function
+// in upper-case hexadecimal digits, and writes what the call answers as a line of its own. Numbers are big-endian, the first byte of a line
+// is the operation:
 //
-//     01  handshake      input                                00 version (4)
-//     02  read frame     minor (1), room (4), input           00 length (4) consumed (4) message, or 01 consumed (4): a keep-alive
-//     03  write chunks   chunk size (4), room (4), message    00 output
-//     04  read value     message                              00 and the value, see values.rt
-//     05  read request   minor (1), message                   00 tag (1) and what it asks for, see requests.rt
-//     06  pack Boolean   room (4), 00 or 01                   00 bytes
-//     07  pack Integer   room (4), value (8)                  00 bytes
-//     08  pack String    room (4), bytes                      00 bytes
-//     09  pack summary   room (4), form (1)                   00 bytes; the forms are in summaries.rt
-//     10  fresh record                                        00
-//     11  arrive         a request                            00 queued, 01 closed
-//     12  take                                                01 closed, 02 idle, 03 tag (1) number (4) numbers, 04 number (4) summary
-//     13  report         00, 01 with more, 02 failure         04 number (4) summary
-//     14  close                                               01
-//     15  show record                                         00 and the record, see show.rt
-//     16  set record     a record as 15 shows it              00
+//     01  handshake        input                                00 version (4)
+//     02  read frame       minor (1), room (4), input           00 length (4) consumed (4) message, or 01 consumed (4): a keep-alive
+//     03  write chunks     chunk size (4), room (4), message    00 output
+//     04  read value       message                              00 and the value, see values.rt
+//     05  read request     minor (1), message                   00 tag (1) and what it asks for, see requests.rt
+//     06  pack Boolean     room (4), 00 or 01                   00 bytes
+//     07  pack Integer     room (4), value (8)                  00 bytes
+//     08  pack String      room (4), bytes                      00 bytes
+//     09  pack summary     room (4), summary                    00 bytes; the summaries are in summaries.rt
+//     19  read all values  message                              00 and each value that the message holds, by the order of their markers
+//     1A  pack at offset   what (1), at (4), room (4), value    00 end (4) or a refusal, and the buffer, of which each byte was EE, see
+//                                                               packing.rt
+//     1B  summary length   summary                              00 length (4)
 //
-// A refusal is FF, its number (1), its place (4). A line that is no vector gives FE. A request is its tag (1) and, for DISCARD and PULL,
-// n (8) and qid (8). Operations 10 to 16 work on one record, which is fresh at first.
-mod calls;
-mod in_place;
+// A refusal is FF, its number (1), its place (4). A line that is no vector gives FE. A line that begins with # names the group of those
+// behind it, and is written as it stands.
+mod answers;
 mod operands;
-mod operations;
 mod packing;
-mod record;
-mod reply;
 mod requests;
-mod set;
-mod show;
 mod summaries;
 mod values;
 mod wire;
 
-ghost use Prim.Native.Nat.{_≤_, _<_};
-ghost use lib.ListN.{length};
-ghost use Rattle.vectors.specs.Reply.{longest};
-use calls::Performed;
-use connection::record::Connection;
+use console::input;
+use console::output;
 use hex::Decoded;
-use hex::Encoded;
-use libc::STDIN_FILENO;
-use libc::STDOUT_FILENO;
-use lines::LINE_END;
 
-// Enough of a line to know that it is too long.
-const KEPT: usize = 40001;
+// What 16,384 bytes in chunks of one take: the largest room that a line may ask for.
+const LARGEST_ROOM: usize = 49154;
 
-// Writes what `line` asks for to the front of `reply`, and answers its size.
-fn answer(line: &[u8], bytes: &mut [u8], reply: &mut [u8], connection: Connection) -> Performed
-    requires { ⌜ longest ≤ length (now reply) ⌝ }
-    ensures { λ r. ⌜ r .size ≤ longest ⌝ }
-{
+// The numbers are hexadecimal, as everything in a line is.
+fn perform(operation: u8, operands: &[u8], space: &mut [u8]) {
+    match operation {
+        0x01 => wire::negotiate(operands),
+        0x02 => wire::read_frame(operands, space),
+        0x03 => wire::write_chunks(operands, space),
+        0x04 => values::read_value(operands),
+        0x05 => requests::read_request(operands),
+        0x06..=0x09 => packing::pack(operation, operands, space),
+        0x19 => values::read_values(operands),
+        0x1A => packing::pack_at(operands),
+        0x1B => summaries::show_length(operands),
+        _ => answers::no_vector(),
+    }
+}
+
+fn run_vector(vector: &[u8], space: &mut [u8]) {
+    if vector.len() == 0 {
+        answers::no_vector();
+        return;
+    }
+    perform(vector[0], &vector[1..], space);
+}
+
+fn names_group(line: &[u8]) -> bool {
+    if line.len() == 0 {
+        return false;
+    }
+    line[0] == b'#'
+}
+
+fn run_line(line: &[u8], bytes: &mut [u8], space: &mut [u8]) {
+    if names_group(line) {
+        output::text(line);
+        return;
+    }
     match hex::decode(line, bytes) {
-        Decoded::Bytes(n) => operations::perform(&bytes[0..n], reply, connection),
-        Decoded::Refused(_) => calls::done(connection, reply::not_a_vector(reply)),
+        Decoded::Bytes(n) => run_vector(&bytes[0..n], space),
+        Decoded::Refused(_) => answers::no_vector(),
     }
 }
 
-// Writes `reply` as a line of digits.
-fn write_line(reply: &[u8], text: &mut [u8])
-    requires { ⌜ 0 < length (now text) ⌝ }
-{
-    let room = text.len() - 1;
-    if let Encoded::Characters(n) = hex::encode(reply, &mut text[0..room]) {
-        text[n] = LINE_END;
-        io::write_all(STDOUT_FILENO, &text[0..n + 1]);
-    }
-}
-
-fn run_line(
-    line: &[u8],
-    bytes: &mut [u8],
-    reply: &mut [u8],
-    text: &mut [u8],
-    connection: Connection,
-) -> Connection
-    requires { ⌜ (longest ≤ length (now reply)) × (0 < length (now text)) ⌝ }
-{
-    let performed = answer(line, bytes, reply, connection);
-    let size = performed.size;
-    write_line(&reply[0..size], text);
-    let after = performed.connection;
-    after
-}
-
-// The last line, which has no end: it is one if it has characters.
-fn run_last(
-    line: &[u8],
-    bytes: &mut [u8],
-    reply: &mut [u8],
-    text: &mut [u8],
-    connection: Connection,
-)
-    requires { ⌜ (longest ≤ length (now reply)) × (0 < length (now text)) ⌝ }
-{
-    if 0 < line.len() {
-        run_line(line, bytes, reply, text, connection);
-    }
-}
-
-fn least(a: usize, b: usize) -> usize
-    ensures { λ r. ⌜ (r ≤ a) × (r ≤ b) ⌝ }
-{
-    if a < b { a } else { b }
-}
-
-// A turn runs a line or reads once. The input need not end, so the turns are counted down from a number that no run uses up. What is
-// kept of a line that has not ended leaves room to read.
-fn run(input: &mut [u8], bytes: &mut [u8], reply: &mut [u8], text: &mut [u8])
-    requires { ⌜ (longest ≤ length (now reply)) × (0 < length (now text)) ⌝ }
-{
-    let mut connection = connection::record::fresh();
+// The input need not end, so the turns are counted down from a number that no run uses up.
+fn run(buffer: &mut [u8], bytes: &mut [u8], space: &mut [u8]) {
+    let mut line = input::fresh();
     let mut turns = u64::MAX;
-    let mut start: usize = 0;
-    let mut seen: usize = 0;
-    let mut end: usize = 0;
     while 0 < turns {
         turns -= 1;
-        let at = seen + lines::first_length(&input[seen..end]);
-        if at < end {
-            seen = at + 1;
-            connection = run_line(&input[start..at], bytes, reply, text, connection);
-            start = seen;
-        } else {
-            let kept = lines::keep(input, start, least(end - start, KEPT));
-            let got = libc::read(STDIN_FILENO, &mut input[kept..]);
-            let n = io::count(got, &input[kept..]);
-            if n == 0 {
-                run_last(&input[0..kept], bytes, reply, text, connection);
-                return;
-            }
-            start = 0;
-            seen = kept;
-            end = kept + n;
+        line = input::next(buffer, line);
+        if !line.found {
+            return;
         }
+        let start = line.start;
+        let end = line.end;
+        run_line(&buffer[start..end], bytes, space);
+        output::line_end();
     }
 }
 
 fn main() {
-    let mut input = io::large_buffer();
+    let mut buffer = io::large_buffer();
     let mut bytes = [0u8; 20000];
-    let mut reply = [0u8; reply::LONGEST];
-    let mut text = [0u8; 2 * reply::LONGEST + 1];
-    run(&mut input, &mut bytes, &mut reply, &mut text);
+    let mut space = [0u8; LARGEST_ROOM];
+    run(&mut buffer, &mut bytes, &mut space);
 }

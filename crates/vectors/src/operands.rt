@@ -19,26 +19,18 @@ pub fn boolean_at(operands: &[u8], at: usize) -> bool {
     byte_at(operands, at) == 1
 }
 
-// The number in the four bytes at `at`.
-pub fn word_at(operands: &[u8], at: usize) -> u32 {
-    match numbers::read_unsigned(operands, at, 4) {
-        Unsigned::Number(n) => n as u32,
-        Unsigned::OutOfBounds => 0,
-        Unsigned::InvalidWidth => 0,
-    }
-}
-
-pub fn size_at(operands: &[u8], at: usize) -> usize {
-    word_at(operands, at) as usize
-}
-
-// The number in the eight bytes at `at`.
-pub fn number_at(operands: &[u8], at: usize) -> u64 {
-    match numbers::read_unsigned(operands, at, 8) {
+// The number in the `width` bytes at `at`.
+pub fn number_at(operands: &[u8], at: usize, width: usize) -> u64 {
+    match numbers::read_unsigned(operands, at, width) {
         Unsigned::Number(n) => n,
         Unsigned::OutOfBounds => 0,
         Unsigned::InvalidWidth => 0,
     }
+}
+
+// The same for rooms, sizes and counts.
+pub fn size_at(operands: &[u8], at: usize, width: usize) -> usize {
+    number_at(operands, at, width) as usize
 }
 
 // The integer in the eight bytes at `at`.

@@ -1,75 +1,99 @@
-// Operations 06 to 09: a Boolean, an Integer, a String or a summary packed into a room.
-ghost use Prim.Native.Nat.{_+_, _≤_};
-ghost use lib.ListN.{length};
-ghost use Rattle.vectors.specs.Reply.{longest, endOf};
+// Operations 06 to 09 pack a Boolean, an Integer, a String or a summary into a room. Operation 1A packs at any offset of a buffer, and shows
+// the buffer behind its answer; it names what it packs by those operations, and two headers besides:
+//
+//     0A  Dictionary: count (8)
+//     0B  Structure: tag (1) count (8)
+use crate::answers;
 use crate::operands;
-use crate::reply;
 use crate::summaries;
-use connection::answers::Summary;
+use console::output;
 use packstream::pack::Packed;
 
-const BOOLEAN: u8 = 0x06;
+// The largest buffer that operation 1A shows.
+const LARGEST_BUFFER: usize = 256;
 
-const INTEGER: u8 = 0x07;
-
-const STRING: u8 = 0x08;
-
-// Whether the operands behind the room are what the operation packs.
-fn names_value(operation: u8, operands: &[u8]) -> bool {
-    match operation {
-        BOOLEAN => operands.len() == 1 && operands::is_boolean(operands, 0),
-        INTEGER => operands.len() == 8,
-        STRING => true,
-        _ => summaries::names_summary(operands),
+// Whether the operands are what is packed, and nothing is missing or left over.
+fn names_value(what: u8, operands: &[u8]) -> bool {
+    match what {
+        0x06 => operands.len() == 1 && operands::is_boolean(operands, 0),
+        0x07 => operands.len() == 8,
+        0x08 => true,
+        0x09 => summaries::names_summary(operands),
+        0x0A => operands.len() == 8,
+        0x0B => operands.len() == 9,
+        _ => false,
     }
 }
 
-fn pack_summary(summary: Summary, out: &mut [u8]) -> Packed
-    ensures { λ r. ⌜ endOf r ≤ length (now (out .entry)) ⌝ }
-{
-    messages::summary::pack_summary(summary, out, 0)
-}
-
-// Packs a summary into the `room` bytes of the reply from `from` on.
-pub fn pack_behind(summary: Summary, reply: &mut [u8], from: usize, room: usize) -> Packed
-    requires { ⌜ (from + room ≤ longest) × (longest ≤ length (now reply)) ⌝ }
-    ensures { λ r. ⌜ endOf r ≤ room ⌝ }
-{
-    let end = from + room;
-    pack_summary(summary, &mut reply[from..end])
-}
-
-fn pack_value(operation: u8, operands: &[u8], out: &mut [u8]) -> Packed
-    ensures { λ r. ⌜ endOf r ≤ length (now (out .entry)) ⌝ }
-{
-    match operation {
-        BOOLEAN => packstream::pack::pack_boolean(operands::boolean_at(operands, 0), out, 0),
-        INTEGER => packstream::pack::pack_integer(operands::signed_at(operands, 0), out, 0),
-        STRING => packstream::pack::pack_string(operands, out, 0),
-        _ => pack_summary(summaries::summary_of(operands), out),
+fn pack_value(what: u8, operands: &[u8], out: &mut [u8], at: usize) -> Packed {
+    match what {
+        0x06 => packstream::pack::pack_boolean(operands::boolean_at(operands, 0), out, at),
+        0x07 => packstream::pack::pack_integer(operands::signed_at(operands, 0), out, at),
+        0x08 => packstream::pack::pack_string(operands, out, at),
+        0x09 => messages::summary::pack_summary(summaries::summary_of(operands), out, at),
+        0x0A => packstream::pack::pack_dictionary(operands::size_at(operands, 0, 8), out, at),
+        _ => packstream::pack::pack_structure(
+            operands::byte_at(operands, 0),
+            operands::size_at(operands, 1, 8),
+            out,
+            at,
+        ),
     }
 }
 
-pub fn pack(operation: u8, operands: &[u8], reply: &mut [u8]) -> usize
-    requires { ⌜ longest ≤ length (now reply) ⌝ }
-    ensures { λ r. ⌜ r ≤ longest ⌝ }
-{
+pub fn pack(what: u8, operands: &[u8], space: &mut [u8]) {
     if operands.len() < 4 {
-        return reply::not_a_vector(reply);
+        answers::no_vector();
+        return;
     }
-    let room = operands::size_at(operands, 0);
-    if reply::LARGEST_ROOM < room {
-        return reply::not_a_vector(reply);
+    let room = operands::size_at(operands, 0, 4);
+    if space.len() < room {
+        answers::no_vector();
+        return;
     }
-    if !names_value(operation, &operands[4..]) {
-        return reply::not_a_vector(reply);
+    if !names_value(what, &operands[4..]) {
+        answers::no_vector();
+        return;
     }
-    let end = 1 + room;
-    match pack_value(operation, &operands[4..], &mut reply[1..end]) {
-        Packed::To(n) => {
-            reply::put_byte(reply, 0, 0x00);
-            1 + n
+    match pack_value(what, &operands[4..], &mut space[0..room], 0) {
+        Packed::To(end) => {
+            output::byte(0x00);
+            output::front(space, end);
         }
-        Packed::Refused(why) => reply::refuse(why, reply),
+        Packed::Refused(why) => answers::refused(why),
     }
+}
+
+fn pack_into(what: u8, operands: &[u8], buffer: &mut [u8], at: usize) {
+    match pack_value(what, operands, buffer, at) {
+        Packed::To(end) => {
+            output::byte(0x00);
+            output::size(end, 4);
+            output::bytes(buffer);
+        }
+        Packed::Refused(why) => {
+            answers::refused(why);
+            output::bytes(buffer);
+        }
+    }
+}
+
+pub fn pack_at(operands: &[u8]) {
+    if operands.len() < 9 {
+        answers::no_vector();
+        return;
+    }
+    let what = operands[0];
+    if !names_value(what, &operands[9..]) {
+        answers::no_vector();
+        return;
+    }
+    let at = operands::size_at(operands, 1, 4);
+    let room = operands::size_at(operands, 5, 4);
+    if LARGEST_BUFFER < room {
+        answers::no_vector();
+        return;
+    }
+    let mut buffer = [0xEEu8; LARGEST_BUFFER];
+    pack_into(what, &operands[9..], &mut buffer[0..room], at);
 }

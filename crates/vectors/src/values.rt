@@ -1,4 +1,4 @@
-// Operation 04: a message read as a value. The answer is 00 and
+// Operations 04 and 19: a message read as a value. The answer is 00 and
 //
 //     00  Null
 //     01  Boolean (1)
@@ -9,98 +9,123 @@
 //     06  List: count (4)
 //     07  Dictionary: count (4)
 //     08  Structure: tag (1) count (1)
-ghost use Prim.Native.Nat.{_≤_};
-ghost use Rattle.vectors.specs.Reply.{longest};
-use crate::reply;
+//
+// which 19 goes on with for the values inside: those of a container stand behind it.
+use crate::answers;
+use console::output;
 use packstream::read::Head;
 use packstream::read::Reading;
+use packstream::walk::Peeked;
+use packstream::walk::Skipped;
 
-// A kind that has no more to it.
-fn kind_alone(reply: &mut [u8], kind: u8) -> usize
-    ensures { λ r. ⌜ r ≤ longest ⌝ }
-{
-    reply::put_byte(reply, 1, kind);
-    2
+fn show_content(kind: u8, start: usize, size: usize) {
+    output::byte(kind);
+    output::size(start, 4);
+    output::size(size, 4);
 }
 
-fn boolean(reply: &mut [u8], value: bool) -> usize
-    ensures { λ r. ⌜ r ≤ longest ⌝ }
-{
-    reply::put_byte(reply, 1, 0x01);
-    reply::put_byte(reply, 2, value as u8);
-    3
+fn show_count(kind: u8, count: usize) {
+    output::byte(kind);
+    output::size(count, 4);
 }
 
-fn integer(reply: &mut [u8], number: i64) -> usize
-    ensures { λ r. ⌜ r ≤ longest ⌝ }
-{
-    reply::put_byte(reply, 1, 0x02);
-    reply::put_signed(reply, 2, number);
-    10
-}
-
-fn float(reply: &mut [u8], bits: u64) -> usize
-    ensures { λ r. ⌜ r ≤ longest ⌝ }
-{
-    reply::put_byte(reply, 1, 0x03);
-    reply::put(reply, 2, 8, bits);
-    10
-}
-
-fn content(reply: &mut [u8], kind: u8, start: usize, size: usize) -> usize
-    ensures { λ r. ⌜ r ≤ longest ⌝ }
-{
-    reply::put_byte(reply, 1, kind);
-    reply::put_size(reply, 2, 4, start);
-    reply::put_size(reply, 6, 4, size);
-    10
-}
-
-fn counted(reply: &mut [u8], kind: u8, count: usize) -> usize
-    ensures { λ r. ⌜ r ≤ longest ⌝ }
-{
-    reply::put_byte(reply, 1, kind);
-    reply::put_size(reply, 2, 4, count);
-    6
-}
-
-fn structure(reply: &mut [u8], tag: u8, count: usize) -> usize
-    ensures { λ r. ⌜ r ≤ longest ⌝ }
-{
-    reply::put_byte(reply, 1, 0x08);
-    reply::put_byte(reply, 2, tag);
-    reply::put_size(reply, 3, 1, count);
-    4
-}
-
-fn show(head: Head, reply: &mut [u8]) -> usize
-    ensures { λ r. ⌜ r ≤ longest ⌝ }
-{
+fn show(head: Head) {
     match head {
-        Head::Null => kind_alone(reply, 0x00),
-        Head::Boolean(value) => boolean(reply, value),
-        Head::Integer(number) => integer(reply, number),
-        Head::Float(bits) => float(reply, bits),
-        Head::Bytes { start, size } => content(reply, 0x04, start, size),
-        Head::String { start, size } => content(reply, 0x05, start, size),
-        Head::List { first: _, count } => counted(reply, 0x06, count),
-        Head::Dictionary { first: _, count } => counted(reply, 0x07, count),
+        Head::Null => output::byte(0x00),
+        Head::Boolean(value) => {
+            output::byte(0x01);
+            output::byte(value as u8);
+        }
+        Head::Integer(number) => {
+            output::byte(0x02);
+            output::signed(number);
+        }
+        Head::Float(bits) => {
+            output::byte(0x03);
+            output::unsigned(bits, 8);
+        }
+        Head::Bytes { start, size } => show_content(0x04, start, size),
+        Head::String { start, size } => show_content(0x05, start, size),
+        Head::List { first: _, count } => show_count(0x06, count),
+        Head::Dictionary { first: _, count } => show_count(0x07, count),
         Head::Structure {
             tag,
             first: _,
             count,
-        } => structure(reply, tag, count),
+        } => {
+            output::byte(0x08);
+            output::byte(tag);
+            output::size(count, 1);
+        }
     }
 }
 
-pub fn read_value(message: &[u8], reply: &mut [u8]) -> usize
-    ensures { λ r. ⌜ r ≤ longest ⌝ }
-{
+pub fn read_value(message: &[u8]) {
     match packstream::read::read_message(message) {
         Reading::Value { head, end: _ } => {
-            reply::put_byte(reply, 0, 0x00);
-            show(head, reply)
+            output::byte(0x00);
+            show(head);
         }
-        Reading::Refused { refusal, place } => reply::refuse_at(refusal, place, reply),
+        Reading::Refused { refusal, place } => answers::refused_at(refusal, place),
+    }
+}
+
+fn past(message: &[u8], at: usize) -> usize {
+    match packstream::walk::skip(message, at) {
+        Skipped::To(end) => end,
+        Skipped::Nothing => message.len(),
+    }
+}
+
+// Where the next marker is: behind a value that holds no other, or the first thing that a container holds.
+fn next(message: &[u8], at: usize, head: Head) -> usize {
+    match head {
+        Head::Null => past(message, at),
+        Head::Boolean(_) => past(message, at),
+        Head::Integer(_) => past(message, at),
+        Head::Float(_) => past(message, at),
+        Head::Bytes { start: _, size: _ } => past(message, at),
+        Head::String { start: _, size: _ } => past(message, at),
+        Head::List { first, count: _ } => first,
+        Head::Dictionary { first, count: _ } => first,
+        Head::Structure {
+            tag: _,
+            first,
+            count: _,
+        } => first,
+    }
+}
+
+// Shows the value at `at`, and answers where the next marker is.
+fn step(message: &[u8], at: usize) -> usize {
+    match packstream::walk::peek(message, at) {
+        Peeked::Value(head) => {
+            show(head);
+            next(message, at, head)
+        }
+        Peeked::Nothing => message.len(),
+    }
+}
+
+// There are at most as many values as bytes.
+fn show_all(message: &[u8]) {
+    let mut turns = message.len();
+    let mut at = 0;
+    while 0 < turns {
+        turns -= 1;
+        if message.len() <= at {
+            return;
+        }
+        at = step(message, at);
+    }
+}
+
+pub fn read_values(message: &[u8]) {
+    match packstream::read::read_message(message) {
+        Reading::Value { head: _, end: _ } => {
+            output::byte(0x00);
+            show_all(message);
+        }
+        Reading::Refused { refusal, place } => answers::refused_at(refusal, place),
     }
 }
