@@ -1,0 +1,50 @@
+// A conversation on one record, which lies in one place from the first call to the last.
+use connection::answers::Arrival;
+use connection::answers::Closing;
+use connection::answers::Outcome;
+use connection::answers::Reported;
+use connection::answers::Taken;
+use connection::record::Connection;
+use connection::record::Request;
+ghost use mathlib.Core.Path.{_≡_};
+ghost use Rattle.calls.specs.Conversation.{conversation, told};
+
+// What the calls answered, in their order.
+pub struct Heard {
+    pub arrival: Arrival,
+    pub taken: Taken,
+    pub reported: Reported,
+    pub second_arrival: Arrival,
+    pub second_taken: Taken,
+    pub second_reported: Reported,
+    pub closing: Closing,
+}
+
+// Two requests, each with its turn and the engine's outcome, and the end of the connection.
+pub fn hold(
+    start: Connection,
+    first: Request,
+    outcome: Outcome,
+    second: Request,
+    ending: Outcome,
+) -> Heard
+    ensures { λ r. ⌜ told r ≡ conversation start first outcome second ending ⌝ }
+{
+    let mut connection = start;
+    let arrival = connection_in_place::arrive(&mut connection, first);
+    let taken = connection_in_place::take(&mut connection);
+    let reported = connection_in_place::report(&mut connection, outcome);
+    let second_arrival = connection_in_place::arrive(&mut connection, second);
+    let second_taken = connection_in_place::take(&mut connection);
+    let second_reported = connection_in_place::report(&mut connection, ending);
+    let closing = connection_in_place::close(&mut connection);
+    Heard {
+        arrival: arrival,
+        taken: taken,
+        reported: reported,
+        second_arrival: second_arrival,
+        second_taken: second_taken,
+        second_reported: second_reported,
+        closing: closing,
+    }
+}
