@@ -91,7 +91,8 @@ module _ {M : Type 1} (𝓤 : URA M) (H : Heap 𝓤) (A : Atoms 𝓤) where
       qed W (‵ (mem T.the-row .lies z b 0) ∷ []) ∵ fpick ! (λ vs. fsplit ! $ spelt ! T.the-row (Is T.the-row) (shows 𝓤 H A T.the-row) vals (LL.tells T.the-type T′.the-laws) fullShare z vs b 0 $
       use1 W (‵ (fat fullShare T′.mir b 0 (only (vals z)))) (W .laws .raw-at fullShare T′.mir b 0 (only (vals z))) $ forget ! 0 refl $ move ! (1 ∷ []) $ drop ! $ done !)
 
--- a function that, given us beside the record, does as `does` says at every record
+-- a function that, given us beside the record, does as `does` says at every record. P is its answer's type; X and F are what its contract has at exit of what is
+-- beside the record, and say nothing
 pub record Callee {M : Type 1} (𝓤 : URA M) (H : Heap 𝓤) (A : Atoms 𝓤) (run : Fun 𝓤) : Type 2 where
   pub P : Plain
   pub told : row P .Denot → Answer Said

@@ -75,19 +75,19 @@ pub fn closing(answer: Closing) {
 }
 
 // The answers of a conversation, one behind the other.
-pub fn heard(answers: Heard) {
-    let first = answers.arrival;
-    arrival(first);
-    let first = answers.taken;
-    taken(first);
-    let first = answers.reported;
-    reported(first);
-    let second = answers.second_arrival;
-    arrival(second);
-    let second = answers.second_taken;
-    taken(second);
-    let second = answers.second_reported;
-    reported(second);
-    let last = answers.closing;
-    closing(last);
+pub fn heard(all: Heard) {
+    let answer = all.arrival;
+    arrival(answer);
+    let answer = all.taken;
+    taken(answer);
+    let answer = all.reported;
+    reported(answer);
+    let answer = all.second_arrival;
+    arrival(answer);
+    let answer = all.second_taken;
+    taken(answer);
+    let answer = all.second_reported;
+    reported(answer);
+    let answer = all.closing;
+    closing(answer);
 }

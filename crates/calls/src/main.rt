@@ -27,9 +27,10 @@ use console::input;
 use console::output;
 use hex::Decoded;
 
-const NAME_MARK: u8 = 0x23;
+// What the name of a group of lines begins with.
+const NAME_MARK: u8 = b'#';
 
-// Performs the operation that the first of a line's bytes names on those after it. They are the first `size` of `bytes`.
+// Performs the operation that a line's first byte names on the bytes after it. The line's bytes are the first `size`.
 fn run_bytes(bytes: &[u8], size: usize, connection: Connection) -> Connection {
     if size == 0 {
         return operations::no_operation(connection);
