@@ -7,7 +7,7 @@ use connection::answers::Taken;
 use connection::record::Connection;
 use connection::record::Request;
 ghost use mathlib.Core.Path.{_≡_};
-ghost use Rattle.in_place_calls.specs.Conversation.{conversation, told};
+ghost use Rattle.calls.specs.Conversation.{conversation, told};
 
 // What the calls answered, in their order.
 pub struct Heard {
@@ -18,28 +18,6 @@ pub struct Heard {
     pub second_taken: Taken,
     pub second_reported: Reported,
     pub closing: Closing,
-}
-
-fn gather(
-    arrival: Arrival,
-    taken: Taken,
-    reported: Reported,
-    second_arrival: Arrival,
-    second_taken: Taken,
-    second_reported: Reported,
-    closing: Closing,
-) -> Heard
-    ensures { λ r. ⌜ r ≡ record { arrival = arrival; taken = taken; reported = reported; «second_arrival» = «second_arrival»; «second_taken» = «second_taken»; «second_reported» = «second_reported»; closing = closing } ⌝ }
-{
-    Heard {
-        arrival: arrival,
-        taken: taken,
-        reported: reported,
-        second_arrival: second_arrival,
-        second_taken: second_taken,
-        second_reported: second_reported,
-        closing: closing,
-    }
 }
 
 // Two requests, each with its turn and the engine's outcome, and the end of the connection.
@@ -60,13 +38,13 @@ pub fn hold(
     let second_taken = connection_in_place::take(&mut connection);
     let second_reported = connection_in_place::report(&mut connection, ending);
     let closing = connection_in_place::close(&mut connection);
-    gather(
-        arrival,
-        taken,
-        reported,
-        second_arrival,
-        second_taken,
-        second_reported,
-        closing,
-    )
+    Heard {
+        arrival: arrival,
+        taken: taken,
+        reported: reported,
+        second_arrival: second_arrival,
+        second_taken: second_taken,
+        second_reported: second_reported,
+        closing: closing,
+    }
 }

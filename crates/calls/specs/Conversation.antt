@@ -7,7 +7,7 @@ use Rattle.connection.specs.declared.record.Request.{Request}
 use Rattle.connection.specs.declared.answers.Outcome.{Outcome}
 use Rattle.connection.specs.Answers.{toldArrival, toldTaken, toldReported, toldClosing}
 use Rattle.connection.specs.Record.{arriveOf, takeOf, reportOf, closeOf}
-use Rattle.in_place_calls.specs.declared.conversation.Heard.{Heard}
+use Rattle.calls.specs.declared.conversation.Heard.{Heard}
 
 -- the record after a request's arrival, its turn, and the engine's outcome
 unfoldable pub after : Connection → Request → Outcome → Connection
