@@ -8,7 +8,7 @@ use connection::answers::Summary;
 use connection::answers::Taken;
 use connection::record::Request;
 use console::output;
-use packstream::pack::Packed;
+use packing::Packed;
 use refusal::Refusal;
 
 // The longest summary has 60 bytes.
@@ -32,7 +32,7 @@ fn handed(request: Request, number: u64) {
 // 04, the request's number, and the summary that answers it.
 fn answered(summary: Summary, number: u64) {
     let mut packed = [0u8; ROOM];
-    match messages::summary::pack_summary(summary, &mut packed, 0) {
+    match summaries::summary::pack_summary(summary, &mut packed, 0) {
         Packed::To(n) => {
             output::byte(0x04);
             output::unsigned(number, 4);

@@ -12,4 +12,3 @@ pub mod Rows
 pub mod Standing
 pub mod Turns
 pub mod Waiting
-pub mod KeepAlive

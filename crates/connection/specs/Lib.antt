@@ -7,4 +7,3 @@ pub mod Record
 pub mod Parts
 pub mod Claim
 pub mod Cases
-pub mod KeepAlive

@@ -2,19 +2,19 @@
 use Prim.Native.Nat.{ℕ}
 use lib.IntN.{pos}
 use Rattle.refusal.specs.Answer.{Answer, result, refused}
-use Rattle.messages.specs.declared.request.Span.{Span}
-use Rattle.messages.specs.declared.request.Text.{Text}
-use Rattle.messages.specs.declared.request.Text.the-variants as T
-use Rattle.messages.specs.declared.request.Place.{Place}
-use Rattle.messages.specs.declared.request.Place.the-variants as P
-use Rattle.messages.specs.declared.request.Number.{Number}
-use Rattle.messages.specs.declared.request.Number.the-variants as N
-use Rattle.messages.specs.declared.request.Mode.{Mode}
-use Rattle.messages.specs.declared.request.Mode.the-variants as M
-use Rattle.messages.specs.declared.request.Transaction.{Transaction}
-use Rattle.messages.specs.declared.request.Request.{Request}
-use Rattle.messages.specs.declared.request.Request.the-variants as R
-use Rattle.messages.specs.Arrivals.{arrivalOf}
+use Rattle.requests.specs.declared.request.Span.{Span}
+use Rattle.requests.specs.declared.request.Text.{Text}
+use Rattle.requests.specs.declared.request.Text.the-variants as T
+use Rattle.requests.specs.declared.request.Place.{Place}
+use Rattle.requests.specs.declared.request.Place.the-variants as P
+use Rattle.requests.specs.declared.request.Number.{Number}
+use Rattle.requests.specs.declared.request.Number.the-variants as N
+use Rattle.requests.specs.declared.request.Mode.{Mode}
+use Rattle.requests.specs.declared.request.Mode.the-variants as M
+use Rattle.requests.specs.declared.request.Transaction.{Transaction}
+use Rattle.requests.specs.declared.request.Request.{Request}
+use Rattle.requests.specs.declared.request.Request.the-variants as R
+use Rattle.summaries.specs.Arrivals.{arrivalOf}
 use Rattle.meulhaton.specs.declared.fields.TextImage.{TextImage}
 use Rattle.meulhaton.specs.declared.fields.PlaceImage.{PlaceImage}
 use Rattle.meulhaton.specs.declared.fields.NumberImage.{NumberImage}
@@ -22,7 +22,7 @@ use Rattle.meulhaton.specs.declared.fields.HelloImage.{HelloImage}
 use Rattle.meulhaton.specs.declared.fields.RunImage.{RunImage}
 use Rattle.meulhaton.specs.declared.fields.TransactionImage.{TransactionImage}
 use Rattle.meulhaton.specs.declared.fields.FieldsImage.{FieldsImage}
-use Rattle.meulhaton.specs.declared.requests.RequestRead.{RequestRead}
+use Rattle.meulhaton.specs.declared.request.RequestRead.{RequestRead}
 use Rattle.meulhaton.specs.Image.{bare, requestImage}
 
 -- ---- what may be absent

@@ -3,11 +3,11 @@ use Prim.Native.Nat.{ℕ}
 use mathlib.Core.Bool.{cond}
 use lib.IntN.{ℤ, pos}
 use Rattle.refusal.specs.Answer.{Answer, result, refused}
-use Rattle.packstream.specs.Reading.{Found}
-use Rattle.packstream.specs.declared.read.Head.{Head}
-use Rattle.packstream.specs.declared.read.Head.the-variants as H
-use Rattle.meulhaton.specs.declared.values.HeadImage.{HeadImage}
-use Rattle.meulhaton.specs.declared.values.ValueRead.{ValueRead}
+use Rattle.values.specs.Reading.{Found}
+use Rattle.values.specs.declared.read.Head.{Head}
+use Rattle.values.specs.declared.read.Head.the-variants as H
+use Rattle.meulhaton.specs.declared.value.HeadImage.{HeadImage}
+use Rattle.meulhaton.specs.declared.value.ValueRead.{ValueRead}
 
 -- a value that lies nowhere but in its marker or its number
 abbrev pub plain : ℕ → ℕ → ℤ → ℕ → HeadImage

@@ -1,13 +1,13 @@
 // The fields of requests, as numbers.
 ghost use mathlib.Core.Path.{_≡_};
 ghost use Rattle.meulhaton.specs.Requests.{spanImage, textImage, placeImage, placed, numberImage, modeNumber, transactionImage, noTransaction, helloImage, noHello, runImage, noRun, noFields, fieldsOf};
-use messages::request::Mode;
-use messages::request::Number;
-use messages::request::Place;
-use messages::request::Request;
-use messages::request::Span;
-use messages::request::Text;
-use messages::request::Transaction;
+use requests::request::Mode;
+use requests::request::Number;
+use requests::request::Place;
+use requests::request::Request;
+use requests::request::Span;
+use requests::request::Text;
+use requests::request::Transaction;
 
 // A String that may be absent: its content is `size` bytes of the message from `start` on.
 #[repr(C)]

@@ -4,7 +4,7 @@ pub mod calls; // calls.rt: the calls on a connection record
 pub mod fields; // fields.rt: the fields of requests
 pub mod image; // image.rt: a connection record as numbers
 pub mod replies; // replies.rt: what the calls answer
-pub mod requests; // requests.rt: requests read
-pub mod summaries; // summaries.rt: summaries packed
-pub mod values; // values.rt: values read and packed
+pub mod request; // request.rt: requests read
+pub mod summary; // summary.rt: summaries packed
+pub mod value; // value.rt: values read and packed
 pub mod wire; // wire.rt: the handshake, frames and chunks

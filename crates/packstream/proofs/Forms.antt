@@ -20,19 +20,20 @@ use Rattle.numbers.proofs.BigEndian.{length-bytesOf, big-lt, big-one, bytes-par
 use Rattle.numbers.proofs.TwosComplement.{twos-fits}
 use Rattle.numbers.proofs.Access.{width-least, unsigned-found, lies-lt}
 use Rattle.numbers.proofs.RoundTrip.{round-trip as of-width}
-use Rattle.packstream.specs.Marker.{lookup, markerOf}
-use Rattle.packstream.specs.Decode.{sizeAt, leafValue}
-use Rattle.packstream.specs.Packing.{narrowest, doublings, wide, isTiny, packInteger, sizeWidth, headerLength, packBytes, stringHeader, packString, pack}
+use Rattle.markers.specs.Marker.{lookup, markerOf}
+use Rattle.markers.specs.Extents.{sizeAt}
+use Rattle.values.specs.Decode.{leafValue}
+use Rattle.packing.specs.Packing.{narrowest, doublings, wide, isTiny, packInteger, sizeWidth, headerLength, packBytes, stringHeader, packString, pack}
 use Rattle.packstream.specs.Shortest.{IntegerForm, itself, behind}
-use Rattle.packstream.specs.declared.marker.Leaf.{Leaf}
-use Rattle.packstream.specs.declared.marker.Leaf.the-variants as L
-use Rattle.packstream.specs.declared.marker.Container.{Container}
-use Rattle.packstream.specs.declared.marker.Container.the-variants as C
-use Rattle.packstream.specs.declared.marker.Kind.{Kind}
-use Rattle.packstream.specs.declared.marker.Kind.the-variants as K
-use Rattle.packstream.specs.declared.marker.Marker.{Marker}
-use Rattle.packstream.proofs.Extents.{LeafInside}
-use Rattle.packstream.proofs.Packing.{narrowest-least, length-wide, length-tiny, length-integer, length-boolean, length-header}
+use Rattle.markers.specs.declared.marker.Leaf.{Leaf}
+use Rattle.markers.specs.declared.marker.Leaf.the-variants as L
+use Rattle.markers.specs.declared.marker.Container.{Container}
+use Rattle.markers.specs.declared.marker.Container.the-variants as C
+use Rattle.markers.specs.declared.marker.Kind.{Kind}
+use Rattle.markers.specs.declared.marker.Kind.the-variants as K
+use Rattle.markers.specs.declared.marker.Marker.{Marker}
+use Rattle.markers.proofs.Extents.{LeafInside}
+use Rattle.packing.proofs.Packing.{narrowest-least, length-wide, length-tiny, length-integer, length-boolean, length-header}
 use Rattle.packstream.proofs.Headers.{Header}
 
 -- ---- what every marker takes

@@ -14,16 +14,17 @@ use Rattle.numbers.specs.Access.{isWidth}
 use Rattle.numbers.specs.declared.Unsigned.the-variants as U
 use Rattle.numbers.proofs.BigEndian.{length-bytesOf, read-back}
 use Rattle.numbers.proofs.Access.{unsigned-number, width-least}
-use Rattle.packstream.specs.Marker.{sized, markerOf}
-use Rattle.packstream.specs.Decode.{sizeAt, onSize, leafExtent, containerExtent, kindExtent, extentAt, keyKindExtent, keyExtentAt, leafAt, containerAt, valueAt}
-use Rattle.packstream.specs.declared.marker.Leaf.{Leaf}
-use Rattle.packstream.specs.declared.marker.Leaf.the-variants as L
-use Rattle.packstream.specs.declared.marker.Container.{Container}
-use Rattle.packstream.specs.declared.marker.Kind.{Kind}
-use Rattle.packstream.specs.declared.marker.Kind.the-variants as K
-use Rattle.packstream.specs.declared.marker.Marker.{Marker}
-use Rattle.packstream.specs.declared.extent.Extent.{Extent}
-use Rattle.packstream.specs.declared.extent.Extent.the-variants as E
+use Rattle.markers.specs.Marker.{sized, markerOf}
+use Rattle.markers.specs.Extents.{sizeAt, onSize, leafExtent, containerExtent, kindExtent, extentAt, keyKindExtent, keyExtentAt}
+use Rattle.values.specs.Decode.{leafAt, containerAt, valueAt}
+use Rattle.markers.specs.declared.marker.Leaf.{Leaf}
+use Rattle.markers.specs.declared.marker.Leaf.the-variants as L
+use Rattle.markers.specs.declared.marker.Container.{Container}
+use Rattle.markers.specs.declared.marker.Kind.{Kind}
+use Rattle.markers.specs.declared.marker.Kind.the-variants as K
+use Rattle.markers.specs.declared.marker.Marker.{Marker}
+use Rattle.markers.specs.declared.extent.Extent.{Extent}
+use Rattle.markers.specs.declared.extent.Extent.the-variants as E
 use mathlib.Core.Path.{_≡_, refl, sym, ap, _∙_}
 use mathlib.Core.Bool.{Bool, true, false, false≢true, cond}
 use mathlib.Core.List.{List, _∷_}
@@ -39,8 +40,9 @@ use Rattle.numbers.proofs.BigEndian.{length-bytesOf}
 use Rattle.numbers.proofs.Access.{width-least}
 use Rattle.refusal.specs.declared.Refusal.{Refusal}
 use Rattle.refusal.specs.declared.Refusal.the-variants.{ValueTruncated}
-use Rattle.packstream.specs.Marker.{isString, markerOf}
-use Rattle.packstream.specs.Decode.{sizeAt, onSize, leafExtent, containerExtent, kindExtent, extentAt, keyKindExtent, keyExtentAt, leafAt, containerAt, valueAt}
+use Rattle.markers.specs.Marker.{isString, markerOf}
+use Rattle.markers.specs.Extents.{sizeAt, onSize, leafExtent, containerExtent, kindExtent, extentAt, keyKindExtent, keyExtentAt}
+use Rattle.values.specs.Decode.{leafAt, containerAt, valueAt}
 use Rattle.packstream.proofs.Here.{Here, here-room, here-part, here-inside, here-first, here-behind}
 
 -- a header at `at` of a value of kind k and of size n, whose content starts at p

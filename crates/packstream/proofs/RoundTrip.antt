@@ -21,17 +21,18 @@ use Rattle.numbers.proofs.Access.{every-width, width-least, holds-lt}
 use Rattle.numbers.proofs.RoundTrip.{round-trip as of-width}
 use Rattle.utf8.specs.Utf8.{utf8}
 use Rattle.refusal.specs.Answer.{result}
-use Rattle.packstream.specs.Value.{Value, null, boolean, integer, float, bytes, string, list, dictionary, structure, Items, no-items, item, count, Entries, no-entries, entry, countEntries, relocate, relocateItems, relocateEntries, forget}
-use Rattle.packstream.specs.Marker.{itself, fixed, small, sized, lookup, markerOf}
-use Rattle.packstream.specs.Decode.{parsed, leafValue, leafAt, items, repeats, keyAt, entries, valueAt, mostOpen, mostBytes, valueIn, messageOf, decode}
-use Rattle.packstream.specs.Packing.{doublings, wide, packBoolean, packFloat, isTiny, integerWidth, packInteger, sizeWidth, sizeHeader, packBytes, stringHeader, packString, listHeader, dictionaryHeader, structureHeader, pack, packItems, packEntries}
+use Rattle.markers.specs.Value.{Value, null, boolean, integer, float, bytes, string, list, dictionary, structure, Items, no-items, item, count, Entries, no-entries, entry, countEntries, relocate, relocateItems, relocateEntries, forget}
+use Rattle.markers.specs.Marker.{itself, fixed, small, sized, lookup, markerOf}
+use Rattle.values.specs.Decode.{parsed, leafValue, leafAt, items, repeats, keyAt, entries, valueAt, valueIn, messageOf, decode}
+use Rattle.markers.specs.Extents.{mostOpen, mostBytes}
+use Rattle.packing.specs.Packing.{doublings, wide, packBoolean, packFloat, isTiny, integerWidth, packInteger, sizeWidth, sizeHeader, packBytes, stringHeader, packString, listHeader, dictionaryHeader, structureHeader, pack, packItems, packEntries}
 use Rattle.packstream.specs.RoundTrip.{validText, packable, packableItems, packableEntries, located, locatedItems, locatedEntries, RoundTrip}
-use Rattle.packstream.specs.declared.marker.Leaf.the-variants as L
-use Rattle.packstream.specs.declared.marker.Container.the-variants as C
-use Rattle.packstream.specs.declared.marker.Kind.{Kind}
-use Rattle.packstream.specs.declared.marker.Kind.the-variants as K
-use Rattle.packstream.proofs.Markers.{tabulate, agree}
-use Rattle.packstream.proofs.Packing.{by-narrowest, narrowest-width, narrowest-does, tiny-fits, integer-tiny, integer-wide, header-small, header-wide, length-wide}
+use Rattle.markers.specs.declared.marker.Leaf.the-variants as L
+use Rattle.markers.specs.declared.marker.Container.the-variants as C
+use Rattle.markers.specs.declared.marker.Kind.{Kind}
+use Rattle.markers.specs.declared.marker.Kind.the-variants as K
+use Rattle.markers.proofs.Markers.{tabulate, agree}
+use Rattle.packing.proofs.Packing.{by-narrowest, narrowest-width, narrowest-does, tiny-fits, integer-tiny, integer-wide, header-small, header-wide, length-wide}
 use Rattle.packstream.proofs.Here.{Here, here, here-alone, here-room, here-part, here-front, here-back, here-inside, here-first, here-behind}
 use Rattle.packstream.proofs.Headers.{Header, header-itself, header-behind, leaf-value, container-value, key-extent}
 

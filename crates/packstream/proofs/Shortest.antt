@@ -16,19 +16,20 @@ use Rattle.numbers.proofs.Access.{width-most}
 use Rattle.utf8.specs.Utf8.{utf8}
 use Rattle.refusal.specs.Answer.{result}
 use Rattle.refusal.specs.declared.Refusal.the-variants.{TooDeep}
-use Rattle.packstream.specs.Value.{Value, null, boolean, integer, float, bytes, string, list, dictionary, structure, Items, no-items, item, count, Entries, no-entries, entry, countEntries, relocate, relocateItems, relocateEntries, forget}
-use Rattle.packstream.specs.Decode.{extentAt, keyExtentAt, Parse, parsed, failed, andThen, mapped, leafValue, leafAt, isText, items, repeats, KeyText, keyOf, keyAt, entries, containerAt, valueOf, valueAt, mostOpen, mostBytes, whole, valueIn, messageOf, answerOf, decode}
-use Rattle.packstream.specs.Packing.{wide, headerLength, packString, listHeader, dictionaryHeader, pack, packItems, packEntries}
+use Rattle.markers.specs.Value.{Value, null, boolean, integer, float, bytes, string, list, dictionary, structure, Items, no-items, item, count, Entries, no-entries, entry, countEntries, relocate, relocateItems, relocateEntries, forget}
+use Rattle.markers.specs.Extents.{extentAt, keyExtentAt, mostOpen, mostBytes}
+use Rattle.values.specs.Decode.{Parse, parsed, failed, andThen, mapped, leafValue, leafAt, isText, items, repeats, KeyText, keyOf, keyAt, entries, containerAt, valueOf, valueAt, whole, valueIn, messageOf, answerOf, decode}
+use Rattle.packing.specs.Packing.{wide, headerLength, packString, listHeader, dictionaryHeader, pack, packItems, packEntries}
 use Rattle.packstream.specs.Shortest.{Shortest, IntegerForm, itself, behind, IntegerForms}
-use Rattle.packstream.specs.declared.marker.Leaf.{Leaf}
-use Rattle.packstream.specs.declared.marker.Leaf.the-variants as L
-use Rattle.packstream.specs.declared.marker.Container.{Container}
-use Rattle.packstream.specs.declared.marker.Container.the-variants as C
-use Rattle.packstream.specs.declared.marker.Kind.the-variants as K
-use Rattle.packstream.specs.declared.extent.Extent.{Extent}
-use Rattle.packstream.specs.declared.extent.Extent.the-variants as E
-use Rattle.packstream.proofs.Extents.{Inside, LeafInside, extent-inside, key-inside}
-use Rattle.packstream.proofs.Packing.{length-wide, length-header}
+use Rattle.markers.specs.declared.marker.Leaf.{Leaf}
+use Rattle.markers.specs.declared.marker.Leaf.the-variants as L
+use Rattle.markers.specs.declared.marker.Container.{Container}
+use Rattle.markers.specs.declared.marker.Container.the-variants as C
+use Rattle.markers.specs.declared.marker.Kind.the-variants as K
+use Rattle.markers.specs.declared.extent.Extent.{Extent}
+use Rattle.markers.specs.declared.extent.Extent.the-variants as E
+use Rattle.markers.proofs.Extents.{Inside, LeafInside, extent-inside, key-inside}
+use Rattle.packing.proofs.Packing.{length-wide, length-header}
 use Rattle.packstream.proofs.Here.{here-alone}
 use Rattle.packstream.proofs.Headers.{Header, by-test, Headed, KeyHeaded, headed, key-headed}
 use Rattle.packstream.proofs.Forms.{Formed, integer-formed, list-least, dictionary-least, structure-least, string-least, leaf-least}

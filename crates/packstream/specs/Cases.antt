@@ -11,9 +11,10 @@ use Rattle.numbers.specs.TwosComplement.{twos}
 use Rattle.numbers.specs.Access.{unsignedAt}
 use Rattle.utf8.specs.Utf8.{utf8, sequencesFrom, sequence, completes}
 use Rattle.refusal.specs.Answer.{Answer, result, refused}
-use Rattle.packstream.specs.Value.{Value, boolean, integer, float, string, dictionary, structure, no-items, item, no-entries, entry}
-use Rattle.packstream.specs.Marker.{markerOf, lookup}
-use Rattle.packstream.specs.Decode.{decode, messageOf, valueIn, valueAt, items, entries, keyAt, keyExtentAt, extentAt, leafExtent, containerExtent, leafAt, leafValue, same, repeats}
+use Rattle.markers.specs.Value.{Value, boolean, integer, float, string, dictionary, structure, no-items, item, no-entries, entry}
+use Rattle.markers.specs.Marker.{markerOf, lookup}
+use Rattle.values.specs.Decode.{decode, messageOf, valueIn, valueAt, items, entries, keyAt, leafAt, leafValue, same, repeats}
+use Rattle.markers.specs.Extents.{keyExtentAt, extentAt, leafExtent, containerExtent}
 
 record Case : Type 0 where
   message : List ℕ

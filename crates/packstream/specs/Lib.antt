@@ -1,12 +1,3 @@
-pub mod Value
-pub mod Marker
-pub mod Decode
-pub mod Keys
-pub mod Reading
-pub mod Walk
-pub mod Placement
-pub mod Embedding
-pub mod Cases
-pub mod Packing
 pub mod RoundTrip
 pub mod Shortest
+pub mod Cases

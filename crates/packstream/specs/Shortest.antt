@@ -9,9 +9,9 @@ use Rattle.numbers.specs.BigEndian.{bytesOf, Bytes}
 use Rattle.numbers.specs.TwosComplement.{bitsOf, fitsIn}
 use Rattle.numbers.specs.Access.{isWidth}
 use Rattle.refusal.specs.Answer.{result}
-use Rattle.packstream.specs.Value.{Value, integer, forget}
-use Rattle.packstream.specs.Decode.{parsed, valueAt, decode}
-use Rattle.packstream.specs.Packing.{isTiny, wide, pack}
+use Rattle.markers.specs.Value.{Value, integer, forget}
+use Rattle.values.specs.Decode.{parsed, valueAt, decode}
+use Rattle.packing.specs.Packing.{isTiny, wide, pack}
 
 pub record Shortest (v : Value) : Type 0 where
   -- of all messages that are the value, offsets aside, none is shorter

@@ -1,9 +1,2 @@
-// PackStream version 1, document 01, "Values": what the values of a message are, and where they lie in it.
-pub mod extent;
-mod keys;
-mod leaf;
-pub mod marker;
-pub mod pack;
-pub mod read;
-mod value;
-pub mod walk;
+// PackStream version 1, document 01, "Values": what holds of the readers and the packers together. There is no code here: the claims stand
+// in specs/.

@@ -17,8 +17,8 @@ use Rattle.handshake.specs.Version.{keepsAlive}
 use Rattle.handshake.specs.Negotiation.{negotiated}
 use Rattle.framing.specs.Feed.{Reading, message, keep-alive, most}
 use Rattle.framing.specs.Reading.{frameOf, message-of, keep-alive-of, telling, leaves}
-use Rattle.packstream.specs.Decode.{decode}
-use Rattle.messages.specs.Requests.{requestOf}
+use Rattle.values.specs.Decode.{decode}
+use Rattle.requests.specs.Requests.{requestOf}
 use Rattle.session.specs.Receiving.{alone, handshakeIn, Brought, nothing, refusal, arriving, inFrame, framed, broughtIn}
 use Rattle.framing.proofs.Rooms.{frame-alike}
 

@@ -18,8 +18,8 @@ use Rattle.session.specs.declared.phase.Session.{Session}
 use Rattle.session.specs.declared.reply.Opening.{Opening}
 use Rattle.session.specs.declared.reply.Opening.the-variants as O
 use Rattle.session.specs.declared.reply.Reply.{Reply}
-use Rattle.session.specs.declared.serve.Served.{Served}
-use Rattle.session.specs.Serving.{stopped, idle, refusing, endOf, servedBy}
+use Rattle.serving.specs.declared.Served.{Served}
+use Rattle.serving.specs.Serving.{stopped, idle, refusing, endOf, servedBy}
 use Rattle.session.specs.Receiving.{handshakeIn, broughtIn}
 use Rattle.session.specs.declared.line.Handled.the-variants as H
 use Rattle.session.specs.Session.{Next, isIdle, replying, zeros, greeting, answering, inPhase, nextOf, written, handling, telling, told, goingOn, putting, openingLines, replied}

@@ -10,7 +10,7 @@ use borrow.Author.Tests.{le-ltb}
 use Rattle.refusal.specs.Answer.{Answer, result, refused}
 use Rattle.handshake.specs.Version.{bytesOf}
 use Rattle.framing.specs.Feed.{most}
-use Rattle.messages.proofs.SummaryForms.{sized}
+use Rattle.summaries.proofs.SummaryForms.{sized}
 use Rattle.connection.specs.declared.answers.Summary.{Summary}
 use Rattle.connection.specs.declared.record.Connection.{Connection}
 use Rattle.connection.specs.Table as T
@@ -20,7 +20,7 @@ use Rattle.session.specs.declared.phase.Phase.{Phase}
 use Rattle.session.specs.declared.phase.Phase.the-variants.{Awaiting, Open}
 use Rattle.session.specs.declared.phase.Session.{Session}
 use Rattle.session.specs.Text.{lineText, text}
-use Rattle.session.specs.Serving.{End, idle, Serving, turnOf, following, serving, turns, served}
+use Rattle.serving.specs.Serving.{End, idle, Serving, turnOf, following, serving, turns, served}
 use Rattle.session.specs.Receiving as Brought
 use Rattle.session.specs.Receiving.{handshakeIn, broughtIn}
 use Rattle.session.specs.Session.{summaryLine, endLines, replying, zeros, greeting, answering, inPhase, nextOf, written, handling}

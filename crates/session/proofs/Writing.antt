@@ -18,16 +18,16 @@ use Rattle.framing.specs.Chunking.{chunkOf, end as lastChunk, chunked, writing,
 use Rattle.framing.specs.declared.writer.Written.{Written}
 use Rattle.framing.specs.declared.writer.Written.the-variants as W
 use Rattle.framing.proofs.Chunking.{length-chunk, rest-all, rest-some, written as writes}
-use Rattle.packstream.specs.declared.pack.Packed.{Packed}
-use Rattle.packstream.specs.declared.pack.Packed.the-variants as P
-use Rattle.packstream.proofs.Packing.{Packs, packed-there}
-use Rattle.messages.specs.Summaries.{packSummary}
-use Rattle.messages.proofs.SummaryForms.{sized}
+use Rattle.packing.specs.declared.Packed.{Packed}
+use Rattle.packing.specs.declared.Packed.the-variants as P
+use Rattle.packing.proofs.Packing.{Packs, packed-there}
+use Rattle.summaries.specs.Summaries.{packSummary}
+use Rattle.summaries.proofs.SummaryForms.{sized}
 use Rattle.connection.specs.declared.answers.Summary.{Summary}
-use Rattle.session.specs.declared.serve.Sent.{Sent}
+use Rattle.serving.specs.declared.Sent.{Sent}
 use Rattle.session.specs.declared.reply.Reply.{Reply}
 use Rattle.session.specs.Text.{lineText, text}
-use Rattle.session.specs.Serving.{endOf, summaryIn}
+use Rattle.serving.specs.Serving.{endOf, summaryIn}
 use Rattle.session.proofs.Receiving.{from-start}
 use Rattle.session.specs.Session.{summaryLine, endLines, openingLines, replying, written, replied}
 

@@ -12,18 +12,19 @@ use Rattle.handshake.specs.Version.{same as sameBytes, among}
 use Rattle.handshake.specs.Negotiation.{agrees, chosen, negotiated}
 use Rattle.framing.specs.Feed.{feed, most}
 use Rattle.framing.specs.Reading.{frameOf}
-use Rattle.packstream.specs.Marker.{markerOf, lookup}
-use Rattle.packstream.specs.Decode.{messageOf, valueIn, valueAt, items, entries, keyAt, keyExtentAt, extentAt, leafExtent, containerExtent, leafAt, leafValue, same, repeats}
-use Rattle.packstream.specs.Value.{count, countEntries}
-use Rattle.packstream.specs.Packing.{pack, packItems, packEntries, packInteger, sizeHeader, narrowest, doublings}
-use Rattle.messages.specs.View.{wrongIn, under}
-use Rattle.messages.specs.Requests.{hello, transaction, batch, run, tagged}
+use Rattle.markers.specs.Marker.{markerOf, lookup}
+use Rattle.values.specs.Decode.{messageOf, valueIn, valueAt, items, entries, keyAt, leafAt, leafValue, same, repeats}
+use Rattle.markers.specs.Extents.{keyExtentAt, extentAt, leafExtent, containerExtent}
+use Rattle.markers.specs.Value.{count, countEntries}
+use Rattle.packing.specs.Packing.{pack, packItems, packEntries, packInteger, sizeHeader, narrowest, doublings}
+use Rattle.requests.specs.View.{wrongIn, under}
+use Rattle.requests.specs.Requests.{hello, transaction, batch, run, tagged}
 use Rattle.connection.specs.Appendix.{newState, ignores, handsOver, handedSomewhere}
 use Rattle.connection.specs.Table.{namesOpen, isFull, turnOf as turnIn, successStreams, successSummary}
 use Rattle.connection.specs.Rules.{waitingRule, numbersRule, works, mayBeInFlight, countsRule, stateRules, rules}
 use Rattle.connection.specs.Record.{keepsRules}
 use Rattle.session.specs.Text.{lineText, text}
-use Rattle.session.specs.Serving.{afterRefusal, turnOf, serving, served}
+use Rattle.serving.specs.Serving.{afterRefusal, turnOf, serving, served}
 use Rattle.session.specs.Receiving.{handshakeIn, Brought, refusal, broughtIn}
 use Rattle.session.specs.Session.{fresh, replying, nextOf, runOf}
 

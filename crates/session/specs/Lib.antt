@@ -1,9 +1,7 @@
 pub mod Text
-pub mod Serving
 pub mod Receiving
 pub mod Session
 pub mod KeepAlive
-pub mod Idle
 pub mod Room
 pub mod Cases
 pub mod Starred

@@ -12,10 +12,10 @@ use Rattle.handshake.specs.Version.{keepsAlive}
 use Rattle.handshake.specs.Negotiation.{negotiated}
 use Rattle.framing.specs.Feed.{Reading, message, keep-alive}
 use Rattle.framing.specs.Reading.{frameOf, used}
-use Rattle.packstream.specs.Decode.{decode}
-use Rattle.messages.specs.declared.request.Request.{Request}
-use Rattle.messages.specs.Requests.{requestOf}
-use Rattle.messages.specs.Arrivals.{arrivalOf}
+use Rattle.values.specs.Decode.{decode}
+use Rattle.requests.specs.declared.request.Request.{Request}
+use Rattle.requests.specs.Requests.{requestOf}
+use Rattle.summaries.specs.Arrivals.{arrivalOf}
 use Rattle.connection.specs.declared.record.Request.{Request as Arriving}
 use Rattle.session.specs.declared.receive.Received.{Received}
 use Rattle.session.specs.declared.receive.Received.the-variants as R

@@ -10,7 +10,7 @@ use Rattle.refusal.specs.Numbers.{numberOf}
 use Rattle.handshake.specs.Version.{bytesOf}
 use Rattle.framing.specs.Feed.{most}
 use Rattle.framing.specs.Chunking.{chunkOf, end as lastChunk}
-use Rattle.messages.specs.Summaries.{packSummary}
+use Rattle.summaries.specs.Summaries.{packSummary}
 use Rattle.connection.specs.declared.record.Connection.{Connection}
 use Rattle.connection.specs.declared.answers.Summary.{Summary}
 use Rattle.connection.specs.Record.{fresh as freshRecord}
@@ -23,7 +23,7 @@ use Rattle.session.specs.declared.reply.Reply.{Reply}
 use Rattle.session.specs.declared.line.Handled.{Handled}
 use Rattle.session.specs.declared.line.Handled.the-variants as H
 use Rattle.session.specs.Text.{text}
-use Rattle.session.specs.Serving.{End, idle, closed, refusal, Serving, stopped, refusing, served, servedBy}
+use Rattle.serving.specs.Serving.{End, idle, closed, refusal, Serving, stopped, refusing, served, servedBy}
 use Rattle.session.specs.Receiving as Brought
 use Rattle.session.specs.Receiving.{handshakeIn, broughtIn}
 

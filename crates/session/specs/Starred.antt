@@ -13,17 +13,18 @@ use Rattle.handshake.specs.Version.{keepsAlive}
 use Rattle.handshake.specs.Negotiation.{negotiated, agrees}
 use Rattle.framing.specs.Feed.{Reading, message, keep-alive, most, feed}
 use Rattle.framing.specs.Reading.{frameOf}
-use Rattle.packstream.specs.Value.{Value, integer, string, count, countEntries}
-use Rattle.packstream.specs.Marker.{markerOf, lookup}
-use Rattle.packstream.specs.Decode.{decode, messageOf, valueIn, valueAt, items, entries, keyAt, keyExtentAt, extentAt, leafExtent, containerExtent, leafAt, leafValue, same, repeats}
-use Rattle.packstream.specs.Packing.{packInteger, narrowest, doublings, sizeHeader, pack, packItems, packEntries}
+use Rattle.markers.specs.Value.{Value, integer, string, count, countEntries}
+use Rattle.markers.specs.Marker.{markerOf, lookup}
+use Rattle.values.specs.Decode.{decode, messageOf, valueIn, valueAt, items, entries, keyAt, leafAt, leafValue, same, repeats}
+use Rattle.markers.specs.Extents.{keyExtentAt, extentAt, leafExtent, containerExtent}
+use Rattle.packing.specs.Packing.{packInteger, narrowest, doublings, sizeHeader, pack, packItems, packEntries}
 use Rattle.packstream.specs.RoundTrip.{located, locatedItems, locatedEntries}
 use Rattle.connection.specs.declared.answers.Summary.{Summary}
 use Rattle.connection.specs.declared.answers.Summary.the-variants as S
-use Rattle.messages.specs.View.{wrongIn, under}
-use Rattle.messages.specs.Requests.{requestOf, hello, transaction, batch, run, tagged}
-use Rattle.messages.specs.Summaries.{structureOf, packSummary}
-use Rattle.messages.specs.declared.request.Request.{Request}
+use Rattle.requests.specs.View.{wrongIn, under}
+use Rattle.requests.specs.Requests.{requestOf, hello, transaction, batch, run, tagged}
+use Rattle.summaries.specs.Summaries.{structureOf, packSummary}
+use Rattle.requests.specs.declared.request.Request.{Request}
 
 -- what is given to a layer
 pub data Given : Type 0 where

@@ -4,5 +4,4 @@ pub mod line; // line.rt: one more line
 pub mod phase; // phase.rt: a session, and how far it has come
 mod receive; // receive.rt: what a line brings
 mod reply; // reply.rt: what a line leads to, before it is written
-mod serve; // serve.rt: take and report until idle or closed
 mod write; // write.rt: lines of digits

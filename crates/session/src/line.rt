@@ -5,9 +5,9 @@ ghost use Rattle.refusal.specs.Answer.{left};
 ghost use Rattle.session.specs.Session.{handling, telling, told, goingOn, putting};
 use super::phase::Session;
 use super::reply;
-use super::serve::Ending;
 use super::write;
 use refusal::Refusal;
+use serving::Ending;
 
 // What one more line comes to: how many characters were written, and whether the run goes on; or that there was no room for them.
 pub enum Handled {

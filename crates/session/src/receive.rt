@@ -7,8 +7,8 @@ ghost use Rattle.handshake.specs.Version.{keepsAlive};
 ghost use Rattle.handshake.specs.Negotiation.{negotiated, told as agreed};
 ghost use Rattle.framing.specs.Feed.{most};
 ghost use Rattle.framing.specs.Reading.{frameOf};
-ghost use Rattle.packstream.specs.Decode.{decode};
-ghost use Rattle.messages.specs.Requests.{requestOf};
+ghost use Rattle.values.specs.Decode.{decode};
+ghost use Rattle.requests.specs.Requests.{requestOf};
 ghost use Rattle.session.specs.Receiving.{alone, handshakeIn, arriving, framed, broughtIn, told};
 use connection::record::Request;
 use framing::reader;
@@ -17,10 +17,10 @@ use handshake::negotiation;
 use handshake::negotiation::Negotiation;
 use handshake::version::Version;
 use hex::Decoded;
-use messages::arrival;
-use messages::read;
-use messages::request::Reading;
 use refusal::Refusal;
+use requests::read;
+use requests::request::Reading;
+use summaries::arrival;
 
 // A keep-alive brings nothing.
 pub enum Received {

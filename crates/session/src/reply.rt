@@ -5,19 +5,19 @@ ghost use Rattle.refusal.specs.Numbers.{numberOf};
 ghost use Rattle.refusal.specs.Answer.{refused};
 ghost use Rattle.framing.specs.Feed.{most};
 ghost use Rattle.session.specs.Receiving.{handshakeIn, broughtIn};
-ghost use Rattle.session.specs.Serving.{servedBy};
+ghost use Rattle.serving.specs.Serving.{servedBy};
 ghost use Rattle.session.specs.Session.{greeting, answering, nextOf, replied};
 use super::phase::Phase;
 use super::phase::Session;
 use super::receive;
 use super::receive::Received;
-use super::serve;
-use super::serve::Ending;
-use super::serve::Served;
 use connection::record::Connection;
 use handshake::negotiation::Negotiation;
 use handshake::version::Version;
 use refusal::Refusal;
+use serving;
+use serving::Ending;
+use serving::Served;
 
 // What the handshake sends: the version agreed on, or four zeros where there is none in common.
 pub enum Opening {
@@ -37,7 +37,7 @@ fn turn_away(connection: Connection, why: Refusal) -> Reply
     ensures told { λ r. ⌜ replied r ≡ greeting connection (refused (numberOf why) 0) ⌝ }
     ensures few { λ r. ⌜ r .served .count ≤ 33 ⌝ }
 {
-    let served = serve::refuse(connection, why);
+    let served = serving::refuse(connection, why);
     if why.number() == 3 {
         return Reply {
             phase: Phase::Awaiting,
@@ -59,7 +59,7 @@ fn greet(connection: Connection, line: &[u8]) -> Reply
 {
     match receive::receive_handshake(line) {
         Negotiation::Agreed(version) => {
-            let served = serve::stop(connection, Ending::Idle);
+            let served = serving::stop(connection, Ending::Idle);
             Reply {
                 phase: Phase::Open(version),
                 opening: Opening::Agreed(version),
@@ -76,9 +76,9 @@ fn answer(version: Version, connection: Connection, line: &[u8]) -> Served
     ensures few { λ r. ⌜ r .count ≤ 33 ⌝ }
 {
     match receive::receive(version, line) {
-        Received::KeepAlive => serve::stop(connection, Ending::Idle),
-        Received::Request(request) => serve::request(connection, request),
-        Received::Refused(why) => serve::refuse(connection, why),
+        Received::KeepAlive => serving::stop(connection, Ending::Idle),
+        Received::Request(request) => serving::request(connection, request),
+        Received::Refused(why) => serving::refuse(connection, why),
     }
 }
 

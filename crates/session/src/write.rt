@@ -6,17 +6,17 @@ ghost use lib.ListN.{length, take};
 ghost use lib.Seq.{sets};
 ghost use Rattle.slices.specs.Parts.{front};
 ghost use Rattle.session.specs.Text.{lineText, text};
-ghost use Rattle.session.specs.Serving.{endOf, summaryIn};
+ghost use Rattle.serving.specs.Serving.{endOf, summaryIn};
 ghost use Rattle.session.specs.Session.{summaryLine, endLines, openingLines, written, replied};
 use super::reply::Opening;
 use super::reply::Reply;
-use super::serve::Ending;
-use super::serve::Sent;
 use connection::answers::Summary;
 use framing::writer;
 use framing::writer::Written;
-use messages::summary;
-use packstream::pack::Packed;
+use packing::Packed;
+use serving::Ending;
+use serving::Sent;
+use summaries::summary;
 
 const LINE_END: u8 = 0x0A;
 

@@ -20,10 +20,10 @@
 // behind it, and is written as it stands.
 mod answers;
 mod operands;
-mod packing;
-mod requests;
-mod summaries;
-mod values;
+mod requests_read;
+mod summaries_packed;
+mod values_packed;
+mod values_read;
 mod wire;
 
 use console::input;
@@ -39,12 +39,12 @@ fn perform(operation: u8, operands: &[u8], space: &mut [u8]) {
         0x01 => wire::negotiate(operands),
         0x02 => wire::read_frame(operands, space),
         0x03 => wire::write_chunks(operands, space),
-        0x04 => values::read_value(operands),
-        0x05 => requests::read_request(operands),
-        0x06..=0x09 => packing::pack(operation, operands, space),
-        0x19 => values::read_values(operands),
-        0x1A => packing::pack_at(operands),
-        0x1B => summaries::show_length(operands),
+        0x04 => values_read::read_value(operands),
+        0x05 => requests_read::read_request(operands),
+        0x06..=0x09 => values_packed::pack(operation, operands, space),
+        0x19 => values_read::read_values(operands),
+        0x1A => values_packed::pack_at(operands),
+        0x1B => summaries_packed::show_length(operands),
         _ => answers::no_vector(),
     }
 }

@@ -4,7 +4,7 @@ use lib.IntN.{ℤ}
 use mir.Facts.{toZ-ofZ}
 use borrow.Author.Needs.{sfits-of, needs}
 use Rattle.meulhaton.specs.Requests.{numberImage}
-use Rattle.messages.specs.declared.request.Number.the-variants.{Is}
+use Rattle.requests.specs.declared.request.Number.the-variants.{Is}
 use Rattle.meulhaton.proofs.fields.number_image.Statement.{statement}
 use Rattle.meulhaton.proofs.fields.number_image.Tie as tie
 

@@ -4,8 +4,8 @@ use Prim.Native.Nat.{_≤_}
 use native.Mathlib.Omega.{arith}
 use borrow.Author.Needs.{needs}
 use lib.ListN.{length}
-use Rattle.session.specs.declared.serve.Ending.{Ending}
-use Rattle.session.specs.Serving.{endOf}
+use Rattle.serving.specs.declared.Ending.{Ending}
+use Rattle.serving.specs.Serving.{endOf}
 use Rattle.session.specs.Session.{isIdle, written, replied}
 use Rattle.session.proofs.Replies.{unmoved, went-on, came-to-end, session-after, text-after}
 use Rattle.session.proofs.line.handle.Statement.{statement}

@@ -1,7 +1,7 @@
 -- `receive::receive_message` meets its contract. Assumes nothing.
 use mathlib.Core.Path.{sym, ap, _∙_}
 use borrow.Author.Needs.{needs}
-use Rattle.messages.specs.Requests.{told}
+use Rattle.requests.specs.Requests.{told}
 use Rattle.session.specs.Receiving.{request, arriving}
 use Rattle.session.proofs.receive.receive_message.Statement.{statement}
 use Rattle.session.proofs.receive.receive_message.Tie as tie

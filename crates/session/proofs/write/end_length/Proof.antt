@@ -3,9 +3,9 @@ use mathlib.Core.Path.{sym, ap, _∙_}
 use native.Mathlib.Omega.{arith}
 use borrow.Author.Needs.{needs}
 use lib.ListN.{length}
-use Rattle.session.specs.declared.serve.Ending.{Ending}
+use Rattle.serving.specs.declared.Ending.{Ending}
 use Rattle.session.specs.Text.{text}
-use Rattle.session.specs.Serving.{endOf}
+use Rattle.serving.specs.Serving.{endOf}
 use Rattle.session.specs.Session.{endLines}
 use Rattle.session.proofs.Writing.{length-none, length-one}
 use Rattle.session.proofs.write.end_length.Statement.{statement}

@@ -6,9 +6,9 @@ use native.Mathlib.Omega.{arith}
 use borrow.Author.Needs.{needs}
 use lib.ListN.{length}
 use Rattle.refusal.specs.Numbers.{numberOf}
-use Rattle.session.specs.declared.serve.Ending.{Ending}
+use Rattle.serving.specs.declared.Ending.{Ending}
 use Rattle.session.specs.Text.{lineText, text}
-use Rattle.session.specs.Serving.{endOf}
+use Rattle.serving.specs.Serving.{endOf}
 use Rattle.session.specs.Session.{endLines}
 use Rattle.session.proofs.Writing.{length-line, text-none, text-one, none-put, one-put}
 use Rattle.session.proofs.write.put_end.Statement.{statement}

@@ -4,7 +4,7 @@ use Prim.Native.Nat.{_-_}
 use native.Mathlib.Omega.{arith}
 use borrow.Author.Needs.{needs}
 use lib.ListN.{length, take, replicate}
-use Rattle.messages.specs.Summaries.{packSummary}
+use Rattle.summaries.specs.Summaries.{packSummary}
 use Rattle.session.specs.Text.{lineText}
 use Rattle.session.specs.Session.{summaryLine}
 use Rattle.session.proofs.Writing.{length-line, not-packed, packed-fits, packed-bytes, not-written, chunk-fits, chunk-bytes, one-put}

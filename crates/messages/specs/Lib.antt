@@ -1,9 +1,0 @@
-pub mod Names
-pub mod View
-pub mod Checks
-pub mod Requests
-pub mod Arrivals
-pub mod Summaries
-pub mod SummaryForms
-pub mod Cases
-pub mod Walk

@@ -1,0 +1,94 @@
+-- Laws of the checks: a view of any other kind is wrong, and numbers are in their ranges by their signs. Assumes nothing.
+use mathlib.Core.Path.{_≡_, refl, sym, ap, _∙_}
+use mathlib.Core.Bool.{Bool, true, false, true≢false, false≢true}
+use mathlib.Core.List.{List, [], _∷_}
+use Prim.Native.Nat.{ℕ, zero, suc}
+use native.Mathlib.Omega.{arith}
+use lib.Dec.{leb, eqb, leb·zero}
+use lib.IntN.{ℤ, pos, negsuc}
+use lib.Signed.{leZ}
+use borrow.Author.Tests.{lt-leb, ne-eqb}
+use denote.Enum.Declared.{tagOf}
+use types.Run.{OneOf, miss}
+use Rattle.refusal.specs.Answer.{result}
+use Rattle.requests.specs.Checks.{wrong, stringAt, dictionaryAt, listOfStringsAt, modeAt, integerAt, nonNegative, minusOneOr}
+use Rattle.requests.specs.declared.request.Number.the-variants as N
+use Rattle.requests.specs.declared.view.View.{View}
+use Rattle.requests.specs.declared.view.View.the-variants as As
+use Rattle.requests.proofs.view.View as View′
+
+-- the view is of one of these kinds, by their order
+abbrev pub Kinds : List ℕ → View → Type 0
+Kinds ks v = OneOf ks (tagOf View′.the-type v)
+
+module _ (place : ℕ) where
+  pub not-string : (v : View) → Kinds (2 ∷ 3 ∷ 4 ∷ 5 ∷ []) v → wrong place ≡ stringAt place v
+  not-string As.Absent e = absurd (miss (2 ∷ 3 ∷ 4 ∷ 5 ∷ []) 0 tt e)
+  not-string (As.String s mode) e = absurd (miss (2 ∷ 3 ∷ 4 ∷ 5 ∷ []) 1 tt e)
+  not-string (As.Integer z) e = refl
+  not-string (As.List item) e = refl
+  not-string As.Dictionary e = refl
+  not-string As.Other e = refl
+
+  pub not-dictionary : (v : View) → Kinds (1 ∷ 2 ∷ 3 ∷ 5 ∷ []) v → wrong place ≡ dictionaryAt place v
+  not-dictionary As.Absent e = absurd (miss (1 ∷ 2 ∷ 3 ∷ 5 ∷ []) 0 tt e)
+  not-dictionary (As.String s mode) e = refl
+  not-dictionary (As.Integer z) e = refl
+  not-dictionary (As.List item) e = refl
+  not-dictionary As.Dictionary e = absurd (miss (1 ∷ 2 ∷ 3 ∷ 5 ∷ []) 4 tt e)
+  not-dictionary As.Other e = refl
+
+  pub not-list : (v : View) → Kinds (1 ∷ 2 ∷ 4 ∷ 5 ∷ []) v → wrong place ≡ listOfStringsAt place v
+  not-list As.Absent e = absurd (miss (1 ∷ 2 ∷ 4 ∷ 5 ∷ []) 0 tt e)
+  not-list (As.String s mode) e = refl
+  not-list (As.Integer z) e = refl
+  not-list (As.List item) e = absurd (miss (1 ∷ 2 ∷ 4 ∷ 5 ∷ []) 3 tt e)
+  not-list As.Dictionary e = refl
+  not-list As.Other e = refl
+
+  pub no-mode : (v : View) → Kinds (2 ∷ 3 ∷ 4 ∷ 5 ∷ []) v → wrong place ≡ modeAt place v
+  no-mode As.Absent e = absurd (miss (2 ∷ 3 ∷ 4 ∷ 5 ∷ []) 0 tt e)
+  no-mode (As.String s mode) e = absurd (miss (2 ∷ 3 ∷ 4 ∷ 5 ∷ []) 1 tt e)
+  no-mode (As.Integer z) e = refl
+  no-mode (As.List item) e = refl
+  no-mode As.Dictionary e = refl
+  no-mode As.Other e = refl
+
+  pub not-integer : (range : ℤ → Bool) (v : View) → Kinds (1 ∷ 3 ∷ 4 ∷ 5 ∷ []) v → wrong place ≡ integerAt range place v
+  not-integer range As.Absent e = absurd (miss (1 ∷ 3 ∷ 4 ∷ 5 ∷ []) 0 tt e)
+  not-integer range (As.String s mode) e = refl
+  not-integer range (As.Integer z) e = absurd (miss (1 ∷ 3 ∷ 4 ∷ 5 ∷ []) 2 tt e)
+  not-integer range (As.List item) e = refl
+  not-integer range As.Dictionary e = refl
+  not-integer range As.Other e = refl
+
+-- an Integer z, held as w, in the range or not
+module _ (range : ℤ → Bool) (place : ℕ) (v : View) (z w : ℤ) (b : Bool) (e : v ≡ As.Integer z) (held : w ≡ z) (test : b ≡ range w) where
+  pub in-range : b ≡ true → result (N.Is w) ≡ integerAt range place v
+  in-range h = rw (e, ← held, ← test, h)
+
+  pub out-of-range : b ≡ false → wrong place ≡ integerAt range place v
+  out-of-range h = rw (e, ← held, ← test, h)
+
+-- ---- ranges: of the number z, and of w, z as the machine holds it
+
+-- -1 is the greatest of the negative numbers
+only-zero : (m : ℕ) → leb m 0 ≡ eqb m 0
+only-zero zero = refl
+only-zero (suc m) = lt-leb (suc m) 0 (omega arith) ∙ sym (ne-eqb (suc m) 0 (λ q. omega arith))
+
+pub timeout-is : (z w : ℤ) → w ≡ z → leZ (pos 0) w ≡ nonNegative z
+timeout-is (pos m) w e = ap (leZ (pos 0)) e ∙ leb·zero m
+timeout-is (negsuc m) w e = ap (leZ (pos 0)) e
+
+pub stream-is : (z w : ℤ) → w ≡ z → leZ (negsuc 0) w ≡ minusOneOr 0 z
+stream-is (pos m) w e = ap (leZ (negsuc 0)) e ∙ sym (leb·zero m)
+stream-is (negsuc m) w e = ap (leZ (negsuc 0)) e ∙ only-zero m
+
+pub records-high : (z w : ℤ) → w ≡ z → leZ (pos 0) w ≡ true → leZ (pos 1) w ≡ minusOneOr 1 z
+records-high (pos m) w e h = ap (leZ (pos 1)) e
+records-high (negsuc m) w e h = absurd (false≢true (ap (leZ (pos 0)) (sym e) ∙ h))
+
+pub records-low : (z w : ℤ) → w ≡ z → leZ (pos 0) w ≡ false → leZ (negsuc 0) w ≡ minusOneOr 1 z
+records-low (pos m) w e h = absurd (true≢false (sym (leb·zero m) ∙ ap (leZ (pos 0)) (sym e) ∙ h))
+records-low (negsuc m) w e h = ap (leZ (negsuc 0)) e ∙ only-zero m

@@ -1,0 +1,3 @@
+pub mod Arrivals
+pub mod Summaries
+pub mod SummaryForms

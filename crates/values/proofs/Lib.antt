@@ -1,0 +1,9 @@
+pub mod Leaves
+pub mod KeySearch
+pub mod Scratch
+pub mod Steps
+pub mod Places
+pub mod Passing
+pub mod Embedding
+pub mod Placement
+pub mod Answers
