@@ -15,7 +15,8 @@ use Rattle.connection.specs.declared.record.Request.{Request}
 use Rattle.connection.specs.Requests.{inState, inRange}
 use Rattle.connection.specs.Table.{Table, Done, idle, unlessDefunct, accept, takeFirst}
 use Rattle.connection.specs.Rules.{distinctBelow, countsRule, stateRules, rules, openRule, resetRule, mayBeInFlight, firstInFlight, flightRule, waitingRule, numbersRule}
-use Rattle.connection.specs.Record.{joined, front, firstIn, openOf, kept, keepsRules, carried, called}
+use Rattle.connection.specs.Record.{joined, front, openOf, kept, keepsRules, carried, called}
+use Rattle.connection.specs.Private.Queue.{firstIn}
 use Rattle.connection.proofs.Bools.{and-left, and-right}
 use Rattle.connection.proofs.Keeping.{Fits}
 use Rattle.connection.proofs.Standing.{counts-by, one-in-flight}

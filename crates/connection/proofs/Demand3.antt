@@ -21,7 +21,8 @@ use Rattle.connection.specs.declared.answers.Summary.{Summary}
 use Rattle.connection.specs.declared.answers.Summary.the-variants as S
 use Rattle.connection.specs.declared.turn.Turn.{Turn}
 use Rattle.connection.specs.declared.turn.Turn.the-variants as U
-use Rattle.connection.specs.Requests.{RESET, kindOf, inState, is, inRange, any}
+use Rattle.connection.specs.Requests.{kindOf, inState, is, inRange, any}
+use Rattle.bolt.specs.Requests.{RESET}
 use Rattle.connection.specs.Appendix.{newState}
 use Rattle.connection.specs.Table as T
 use Rattle.connection.specs.Table.{Open, Table, Call, Said, Done, start, step, defunct, accept, turnOf, answer, taken, takeFirst, response, streamsAfter, reported, fitting, reportFirst}

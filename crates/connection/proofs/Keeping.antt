@@ -15,10 +15,12 @@ use Rattle.connection.specs.declared.record.Control.{Control}
 use Rattle.connection.specs.declared.record.Connection.{Connection}
 use Rattle.connection.specs.declared.answers.Summary.{Summary}
 use Rattle.connection.specs.declared.turn.Turn.{Turn}
-use Rattle.connection.specs.Requests.{RESET, is, inState}
+use Rattle.connection.specs.Requests.{is, inState}
+use Rattle.bolt.specs.Requests.{RESET}
 use Rattle.connection.specs.Table.{Open, Table, Done, queued, closed, idle, answered, noneOpen, defunct, enqueued, accept, answer, taken, takeFirst, turnOf}
-use Rattle.connection.specs.Record.{After, joined, front, behind, firstIn, linedUp, openOf, laid, kept, put, carried}
-use Rattle.connection.specs.Parts.{defunctIn, countedIn, enqueuedIn, answeredIn, handedIn}
+use Rattle.connection.specs.Record.{After, joined, front, linedUp, openOf, laid, kept, put, carried}
+use Rattle.connection.specs.Private.Queue.{behind, firstIn}
+use Rattle.connection.specs.Private.Parts.{defunctIn, countedIn, enqueuedIn, answeredIn, handedIn}
 use Rattle.connection.proofs.Numbers.{laid-own}
 use Rattle.connection.proofs.Waiting.{front-length, behind-length, front-first, lined-own}
 

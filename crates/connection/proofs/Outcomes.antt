@@ -17,11 +17,13 @@ use Rattle.connection.specs.declared.answers.Outcome.the-variants.{Succe
 use Rattle.connection.specs.declared.answers.Reported.the-variants.{Answered}
 use Rattle.connection.specs.declared.answers.Summary.{Summary}
 use Rattle.connection.specs.declared.answers.Summary.the-variants as S
-use Rattle.connection.specs.Requests.{Kind, HELLO, RUN, BEGIN, isKind, kindOf, inState, inTransaction, is, fetches, asked, named}
+use Rattle.connection.specs.Requests.{isKind, kindOf, inState, inTransaction, is, fetches, asked, named}
+use Rattle.bolt.specs.Requests.{Kind, HELLO, RUN, BEGIN}
 use Rattle.connection.specs.Appendix.{newState, handsOver}
 use Rattle.connection.specs.Table.{Open, Table, Done, oneMore, oneLess, answer, answered, response, successStreams, streamsAfter, successSummary, summaryOf, waitingIn, settled, reported, fitting, reportFirst}
-use Rattle.connection.specs.Record.{joined, front, behind, firstIn, openOf, laid, kept, carried, toldReport}
-use Rattle.connection.specs.Parts.{answeredIn, lastState, failureState, settledIn}
+use Rattle.connection.specs.Record.{joined, front, openOf, laid, kept, carried, toldReport}
+use Rattle.connection.specs.Private.Queue.{behind, firstIn}
+use Rattle.connection.specs.Private.Parts.{answeredIn, lastState, failureState, settledIn}
 use Rattle.connection.proofs.Keeping.{Fits, put-answered, answers}
 use Rattle.connection.proofs.Waiting.{front-first}
 

@@ -8,10 +8,11 @@ use borrow.Author.Tests.{eqb-true}
 use Rattle.connection.specs.declared.record.State.{State}
 use Rattle.connection.specs.declared.record.State.the-variants.{Connected, Ready, Streaming, TxReady, TxStreaming, Failed, Interrupted, Defunct}
 use Rattle.connection.specs.declared.record.Request.{Request}
-use Rattle.connection.specs.Requests.{Kind, HELLO, GOODBYE, RESET, RUN, BEGIN, COMMIT, ROLLBACK, DISCARD, PULL, rank, inState, inTransaction, isKind, is, fetching, fetches, kindOf}
+use Rattle.connection.specs.Requests.{rank, inState, inTransaction, isKind, is, fetching, fetches, kindOf}
+use Rattle.bolt.specs.Requests.{Kind, HELLO, GOODBYE, RESET, RUN, BEGIN, COMMIT, ROLLBACK, DISCARD, PULL}
 use Rattle.connection.specs.Appendix.{Response, success, more, last, last-of-several, failure, ignored, newState, handsOver, ignores, handedSomewhere}
 use Rattle.connection.specs.Rules.{works}
-use Rattle.connection.specs.Parts.{lastState, failureState}
+use Rattle.connection.specs.Private.Parts.{lastState, failureState}
 use Rattle.connection.proofs.Bools.{and-left, and-right, and-both, not-no, same-alike}
 
 -- ---- every state

@@ -10,7 +10,8 @@ use Rattle.connection.specs.declared.record.State.the-variants.{Streamin
 use Rattle.connection.specs.declared.record.Request.{Request}
 use Rattle.connection.specs.declared.turn.Turn.{Turn}
 use Rattle.connection.specs.declared.turn.Turn.the-variants.{Closes, Resets, Ignored, Handed, Full, Unknown}
-use Rattle.connection.specs.Requests.{RESET, RUN, kindOf, inState, inTransaction, is, fetches, asked, named, isLatest}
+use Rattle.connection.specs.Requests.{kindOf, inState, inTransaction, is, fetches, asked, named, isLatest}
+use Rattle.bolt.specs.Requests.{RESET, RUN}
 use Rattle.connection.specs.Appendix.{ignores, handsOver}
 use Rattle.connection.specs.Table.{Open, has, isFull, namesOpen, turnOf}
 use Rattle.connection.specs.Rules.{isHanded}

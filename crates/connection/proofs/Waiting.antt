@@ -11,7 +11,8 @@ use Rattle.connection.specs.declared.record.Request.the-variants.{Hello}
 use Rattle.connection.specs.declared.record.Slot.{Slot}
 use Rattle.connection.specs.declared.record.Queue.{Queue}
 use Rattle.connection.specs.Requests.{any}
-use Rattle.connection.specs.Record.{slot, requestIn, front, behind, firstIn, linedUp}
+use Rattle.connection.specs.Record.{slot, requestIn, front, linedUp}
+use Rattle.connection.specs.Private.Queue.{behind, firstIn}
 use Rattle.connection.proofs.Lists.{sets-snoc, sets-own, take-sets, take-more, scan-found, scan-passed, scan-ended}
 
 -- ---- requests in places

@@ -6,7 +6,8 @@ use Prim.Native.Nat.{ℕ}
 use lib.Dec.{eqb}
 use Rattle.connection.specs.declared.record.State.{State}
 use Rattle.connection.specs.declared.record.State.the-variants.{Connected, Ready, Streaming, TxReady, TxStreaming, Failed, Interrupted, Defunct}
-use Rattle.connection.specs.Requests.{Kind, HELLO, RUN, BEGIN, COMMIT, ROLLBACK, DISCARD, PULL, inState, isKind, any}
+use Rattle.connection.specs.Requests.{inState, isKind, any}
+use Rattle.bolt.specs.Requests.{Kind, HELLO, RUN, BEGIN, COMMIT, ROLLBACK, DISCARD, PULL}
 
 -- the response's column
 pub data Response : Type 0 where

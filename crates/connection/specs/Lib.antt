@@ -4,6 +4,6 @@ pub mod Table
 pub mod Rules
 pub mod Answers
 pub mod Record
-pub mod Parts
+pub mod Private
 pub mod Claim
 pub mod Cases

@@ -3,7 +3,7 @@ use Prim.Native.Nat.{ℕ}
 use mathlib.Core.Bool.{Bool, false, cond, _&&_}
 use mathlib.Core.List.{List, map}
 use lib.Dec.{leb}
-use lib.ListN.{length, take, drop, getD, replicate}
+use lib.ListN.{length, take, replicate}
 use lib.Seq.{sets}
 use Rattle.refusal.specs.Answer.{Answer, result, refused}
 use Rattle.connection.specs.declared.record.State.the-variants.{Connected}
@@ -34,13 +34,6 @@ requestIn s = s .request
 -- the requests in the first n places
 abbrev pub front : Queue → ℕ → List Request
 front q n = map requestIn (take n (q .slots))
-
--- the request in the first place, and those in the n places behind it
-abbrev pub firstIn : Queue → Request
-firstIn q = requestIn (getD (q .slots) 0 (slot Hello))
-
-abbrev pub behind : Queue → ℕ → List Request
-behind q n = map requestIn (take n (drop 1 (q .slots)))
 
 abbrev pub openOf : Streams → Open
 openOf s = record { numbers = take (s .count) (s .numbers); next = s .next }

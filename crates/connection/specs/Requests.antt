@@ -3,7 +3,7 @@
 use Prim.Native.Nat.{ℕ, _-_}
 use mathlib.Core.Bool.{Bool, true, false, not, _&&_, _||_}
 use mathlib.Core.List.{List, [], _∷_}
-use lib.Dec.{eqb, leb}
+use lib.Dec.{eqb}
 use lib.IntN.{ℤ, pos, negsuc}
 use Rattle.connection.specs.declared.record.State.{State}
 use Rattle.connection.specs.declared.record.State.the-variants.{Connected, Ready, Streaming, TxReady, TxStreaming, Failed, Interrupted, Defunct}
@@ -11,18 +11,8 @@ use Rattle.connection.specs.declared.record.Request.{Request}
 use Rattle.connection.specs.declared.record.Request.the-variants.{Hello, Goodbye, Reset, Run, Begin, Commit, Rollback, Discard, Pull}
 use Rattle.connection.specs.declared.requests.Asked.{Asked}
 use Rattle.connection.specs.declared.requests.Asked.the-variants.{Latest, Stream}
-
--- the requests, as the papers name them
-pub data Kind : Type 0 where
-  HELLO : Kind
-  GOODBYE : Kind
-  RESET : Kind
-  RUN : Kind
-  BEGIN : Kind
-  COMMIT : Kind
-  ROLLBACK : Kind
-  DISCARD : Kind
-  PULL : Kind
+use Rattle.bolt.specs.Requests.{Kind, HELLO, GOODBYE, RESET, RUN, BEGIN, COMMIT, ROLLBACK, DISCARD, PULL, tag}
+use Rattle.bolt.specs.Ranges.{minusOneOr}
 
 abbrev pub kindOf : Request → Kind
 kindOf Hello = HELLO
@@ -34,18 +24,6 @@ kindOf Commit = COMMIT
 kindOf Rollback = ROLLBACK
 kindOf (Discard n qid) = DISCARD
 kindOf (Pull n qid) = PULL
-
--- a request's tag: document 01, "Requests"
-abbrev pub tag : Kind → ℕ
-tag HELLO = 1
-tag GOODBYE = 2
-tag RESET = 15
-tag RUN = 16
-tag BEGIN = 17
-tag COMMIT = 18
-tag ROLLBACK = 19
-tag DISCARD = 47
-tag PULL = 63
 
 -- the states in 003's order, to tell them apart
 abbrev pub rank : State → ℕ
@@ -84,11 +62,6 @@ fetching PULL = true
 
 abbrev pub fetches : Request → Bool
 fetches r = fetching (kindOf r)
-
--- -1, or `least` or more
-abbrev pub minusOneOr : ℕ → ℤ → Bool
-minusOneOr least (pos m) = leb least m
-minusOneOr least (negsuc m) = eqb m 0
 
 -- n is -1 or at least 1, and qid -1 or at least 0
 abbrev pub inRange : Request → Bool

@@ -9,7 +9,8 @@ use Rattle.connection.specs.declared.record.State.the-variants.{TxStream
 use Rattle.connection.specs.declared.record.Request.{Request}
 use Rattle.connection.specs.declared.turn.Turn.{Turn}
 use Rattle.connection.specs.declared.turn.Turn.the-variants.{Closes, Resets, Ignored, Handed, Full, Unknown}
-use Rattle.connection.specs.Requests.{Kind, HELLO, RESET, kindOf, inState, isKind, is, outOfRange, any}
+use Rattle.connection.specs.Requests.{kindOf, inState, isKind, is, outOfRange, any}
+use Rattle.bolt.specs.Requests.{Kind, HELLO, RESET}
 use Rattle.connection.specs.Appendix.{handedSomewhere}
 use Rattle.connection.specs.Table.{Open, Table, turnOf, has}
 

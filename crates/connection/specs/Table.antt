@@ -16,7 +16,8 @@ use Rattle.connection.specs.declared.answers.Summary.{Summary}
 use Rattle.connection.specs.declared.answers.Summary.the-variants as S
 use Rattle.connection.specs.declared.turn.Turn.{Turn}
 use Rattle.connection.specs.declared.turn.Turn.the-variants as U
-use Rattle.connection.specs.Requests.{RESET, RUN, BEGIN, kindOf, inState, inTransaction, is, fetches, inRange, asked, named, isLatest, any}
+use Rattle.connection.specs.Requests.{kindOf, inState, inTransaction, is, fetches, inRange, asked, named, isLatest, any}
+use Rattle.bolt.specs.Requests.{RESET, RUN, BEGIN}
 use Rattle.connection.specs.Appendix.{Response, success, more, last, last-of-several, failure, newState, ignores, handsOver}
 
 -- ---- what the table keeps

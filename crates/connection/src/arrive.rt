@@ -21,7 +21,7 @@ ghost use Rattle.refusal.specs.Answer.{result};
 ghost use Rattle.connection.specs.declared.answers.Arrival.the-variants.{Queued};
 ghost use Rattle.connection.specs.Table.{accept as acceptT};
 ghost use Rattle.connection.specs.Record.{joined, kept, carried, toldArrive, arriveOf};
-ghost use Rattle.connection.specs.Parts.{Accepting, enqueuedIn};
+ghost use Rattle.connection.specs.Private.Parts.{Accepting, enqueuedIn};
 
 // A request has come. A RESET interrupts what is going on at once; before HELLO it closes the connection.
 pub fn arrive(connection: Connection, request: Request) -> AfterArrive

@@ -8,7 +8,7 @@ use super::record::Streams;
 use super::streams;
 ghost use mathlib.Core.Path.{_≡_};
 ghost use Prim.Native.Nat.{_<_};
-ghost use Rattle.connection.specs.Parts.{defunctIn, countedIn, answeredIn, handedIn};
+ghost use Rattle.connection.specs.Private.Parts.{defunctIn, countedIn, answeredIn, handedIn};
 
 // The connection is closed: nothing waits and no stream is open.
 pub fn defunct(control: Control) -> Control

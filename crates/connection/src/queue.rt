@@ -8,8 +8,10 @@ ghost use mathlib.Core.Path.{_≡_};
 ghost use mathlib.Core.List.{_∷_, _++_, []};
 ghost use Prim.Native.Nat.{_≤_, _<_};
 ghost use lib.ListN.{drop};
-ghost use Rattle.connection.specs.Requests.{RESET, is, any, outOfRange};
-ghost use Rattle.connection.specs.Record.{front, behind, firstIn, linedUp};
+ghost use Rattle.connection.specs.Requests.{is, any, outOfRange};
+ghost use Rattle.bolt.specs.Requests.{RESET};
+ghost use Rattle.connection.specs.Record.{front, linedUp};
+ghost use Rattle.connection.specs.Private.Queue.{behind, firstIn};
 
 // The first one.
 pub fn first(queue: Queue) -> Request

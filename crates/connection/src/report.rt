@@ -23,11 +23,12 @@ ghost use mathlib.Core.Bool.{true, false, _&&_};
 ghost use Prim.Native.Nat.{_+_, _<_, _≤_};
 ghost use Rattle.connection.specs.declared.answers.Outcome.the-variants.{Success};
 ghost use Rattle.connection.specs.declared.answers.Reported.the-variants.{Answered};
-ghost use Rattle.connection.specs.Requests.{RUN, is, kindOf};
+ghost use Rattle.connection.specs.Requests.{is, kindOf};
+ghost use Rattle.bolt.specs.Requests.{RUN};
 ghost use Rattle.connection.specs.Appendix.{newState, handsOver};
 ghost use Rattle.connection.specs.Table.{isFull, fitting, response, successStreams, streamsAfter, successSummary, summaryOf, reportFirst};
 ghost use Rattle.connection.specs.Record.{joined, front, openOf, laid, kept, carried, toldReport, reportOf};
-ghost use Rattle.connection.specs.Parts.{Reporting, Settling, answeredIn, lastState, failureState, settledIn};
+ghost use Rattle.connection.specs.Private.Parts.{Reporting, Settling, answeredIn, lastState, failureState, settledIn};
 
 // Brings the engine's outcome for the request in flight, and answers with its summary. Where a RESET came in between, the summary still goes
 // out, and nothing else follows from the outcome.

@@ -2,7 +2,9 @@
 use super::record::Request;
 ghost use mathlib.Core.Path.{_≡_};
 ghost use mathlib.Core.Bool.{_&&_};
-ghost use Rattle.connection.specs.Requests.{kindOf, tag as tagOf, fetches as fetchesOf, inRange, minusOneOr, askedBy, asked as askedFor, named, isLatest};
+ghost use Rattle.connection.specs.Requests.{kindOf, fetches as fetchesOf, inRange, askedBy, asked as askedFor, named, isLatest};
+ghost use Rattle.bolt.specs.Ranges.{minusOneOr};
+ghost use Rattle.bolt.specs.Requests.{tag as tagOf};
 
 // Which stream a request that fetches is for.
 pub enum Asked {
@@ -104,28 +106,11 @@ pub fn number_of(asked: Asked, next: u64) -> u64
     }
 }
 
-// Whether a number is -1 or at least 1.
-fn is_count(n: i64) -> bool
-    ensures { λ r. ⌜ r ≡ minusOneOr 1 n ⌝ }
-{
-    if 0 <= n {
-        return 1 <= n;
-    }
-    -1 <= n
-}
-
-// Whether a number is -1 or at least 0.
-fn is_qid(qid: i64) -> bool
-    ensures { λ r. ⌜ r ≡ minusOneOr 0 qid ⌝ }
-{
-    -1 <= qid
-}
-
 fn are_in_range(n: i64, qid: i64) -> bool
     ensures { λ r. ⌜ r ≡ (minusOneOr 1 n && minusOneOr 0 qid) ⌝ }
 {
-    if is_count(n) {
-        return is_qid(qid);
+    if bolt::is_count(n) {
+        return bolt::is_qid(qid);
     }
     false
 }

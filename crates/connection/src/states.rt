@@ -1,25 +1,10 @@
 // Tests of a state, and where each request is handed over.
 use super::record::State;
+use super::record::rank;
 ghost use mathlib.Core.Path.{_≡_};
 ghost use mathlib.Core.Bool.{_||_};
 ghost use Rattle.connection.specs.declared.record.State.the-variants.{Ready, Streaming, TxStreaming, Failed, Interrupted};
-ghost use Rattle.connection.specs.Requests.{rank as rankOf, inState, inTransaction};
-
-// A state's place in 003's list.
-pub fn rank(state: State) -> u8
-    ensures { λ r. ⌜ r ≡ rankOf state ⌝ }
-{
-    match state {
-        State::Connected => 0,
-        State::Ready => 1,
-        State::Streaming => 2,
-        State::TxReady => 3,
-        State::TxStreaming => 4,
-        State::Failed => 5,
-        State::Interrupted => 6,
-        State::Defunct => 7,
-    }
-}
+ghost use Rattle.connection.specs.Requests.{inState, inTransaction};
 
 // Whether two states are the same.
 pub fn is_in(state: State, other: State) -> bool

@@ -25,7 +25,7 @@ ghost use Rattle.connection.specs.declared.answers.Summary.the-variants.
 ghost use Rattle.connection.specs.declared.answers.Taken.the-variants.{Answered};
 ghost use Rattle.connection.specs.Table.{takeFirst};
 ghost use Rattle.connection.specs.Record.{joined, front, kept, carried, toldTake, takeOf};
-ghost use Rattle.connection.specs.Parts.{Answering, answeredIn, clearedIn};
+ghost use Rattle.connection.specs.Private.Parts.{Answering, answeredIn, clearedIn};
 
 // Looks at the first request that waits, and answers it, hands it to the engine, or closes the connection. While one is in flight, and while
 // none waits, it is idle.

@@ -15,7 +15,7 @@ use Rattle.slices.proofs.Pieces.{Put, put-none, put-fits, put-next, put-done}
 use Rattle.numbers.specs.BigEndian.{bytesOf}
 use Rattle.numbers.proofs.BigEndian.{bytesOf-two}
 use Rattle.refusal.specs.Answer.{Answer, result, refused, counted, left}
-use Rattle.framing.specs.Feed.{most}
+use Rattle.bolt.specs.Limits.{mostBytes}
 use Rattle.framing.specs.Chunking.{chunkOf, end, remainder, wholes, chunked, writing}
 
 -- ---- one chunk
@@ -178,18 +178,18 @@ module _ (c room : ℕ) (m : List ℕ) where
       wide-size h = simp (ne-eqb (length m) 0 some, ne-eqb c 0 pos, lt-ltb 65535 c h)
 
       module _ (narrow : c ≤ 65535) where
-        pub too-long : most < length m → writing c room m ≡ refused 6 0
+        pub too-long : mostBytes < length m → writing c room m ≡ refused 6 0
         unfolding writing
-        too-long h = simp (ne-eqb (length m) 0 some, ne-eqb c 0 pos, le-ltb 65535 c narrow, lt-ltb most (length m) h)
+        too-long h = simp (ne-eqb (length m) 0 some, ne-eqb c 0 pos, le-ltb 65535 c narrow, lt-ltb mostBytes (length m) h)
 
-        module _ (short : length m ≤ most) where
+        module _ (short : length m ≤ mostBytes) where
           pub no-room : room < length (chunked c m) → writing c room m ≡ refused 21 0
           unfolding writing
-          no-room h = simp (ne-eqb (length m) 0 some, ne-eqb c 0 pos, le-ltb 65535 c narrow, le-ltb most (length m) short, lt-ltb room (length (chunked c m)) h)
+          no-room h = simp (ne-eqb (length m) 0 some, ne-eqb c 0 pos, le-ltb 65535 c narrow, le-ltb mostBytes (length m) short, lt-ltb room (length (chunked c m)) h)
 
           pub written : length (chunked c m) ≤ room → writing c room m ≡ result (chunked c m)
           unfolding writing
-          written h = simp (ne-eqb (length m) 0 some, ne-eqb c 0 pos, le-ltb 65535 c narrow, le-ltb most (length m) short, le-ltb room (length (chunked c m)) h)
+          written h = simp (ne-eqb (length m) 0 some, ne-eqb c 0 pos, le-ltb 65535 c narrow, le-ltb mostBytes (length m) short, le-ltb room (length (chunked c m)) h)
 
 -- what the writer answers and leaves, from the case of `writing` that holds
 pub answered : (x y : Answer (List ℕ)) (t : Answer ℕ) (d e : List ℕ) → x ≡ y → t ≡ counted y → e ≡ left front y d → (t ≡ counted x) × (e ≡ left front x d)

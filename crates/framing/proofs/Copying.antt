@@ -14,8 +14,10 @@ use Rattle.slices.proofs.Tests.{lt-or-ge}
 use Rattle.slices.proofs.Parts.{length-part, sets-front, fits-yes}
 use Rattle.numbers.specs.BigEndian.{bigEndian}
 use Rattle.refusal.specs.Answer.{Answer, refused, left}
-use Rattle.framing.specs.Feed.{Reading, most, ended}
-use Rattle.framing.specs.Reading.{frameOf, leaves, IsMessage}
+use Rattle.framing.specs.Feed.{Reading, ended}
+use Rattle.bolt.specs.Limits.{mostBytes}
+use Rattle.framing.specs.Reading.{frameOf, leaves}
+use Rattle.framing.specs.Private.Copying.{IsMessage}
 use Rattle.framing.proofs.Scanning.{Came, came-none, at-few, at-message, at-none, at-long, at-room, at-cut, at-next}
 
 -- what has come of the message stands in front of what the buffer held
@@ -49,8 +51,8 @@ module _ {alive : Bool} {s d₀ d : List ℕ} {at sum : ℕ} (w : Copied alive s
         (eq-zero-or-pos sum)
 
     module _ (more : n ≡ 0 → ⊥) where
-      pub message-small : sum + n ≤ most
-      message-small = ⊎-elim (λ h. absurd (not-refused 6 (at-long (w .came) message-header size more h))) (λ h. h) (lt-or-ge most (sum + n))
+      pub message-small : sum + n ≤ mostBytes
+      message-small = ⊎-elim (λ h. absurd (not-refused 6 (at-long (w .came) message-header size more h))) (λ h. h) (lt-or-ge mostBytes (sum + n))
 
       pub message-room : sum + n ≤ length d₀
       message-room =

@@ -10,20 +10,20 @@ use lib.Seq.{drop-cons}
 use Rattle.slices.specs.Parts.{part}
 use Rattle.numbers.specs.BigEndian.{bigEndian}
 use Rattle.refusal.specs.Answer.{refused}
-use Rattle.framing.specs.Feed.{Waiting, chunk, Progress, done, waits, opened, step, andThen, feed}
+use Rattle.framing.specs.Feed.{Waiting, chunk, Progress, done, waits, opened, step, unlessDone, feed}
 use Rattle.framing.specs.Reading.{closed}
 
-then-then : (p : Progress) (f g : Waiting → Progress) → andThen p (λ w. andThen (f w) g) ≡ andThen (andThen p f) g
+then-then : (p : Progress) (f g : Waiting → Progress) → unlessDone p (λ w. unlessDone (f w) g) ≡ unlessDone (unlessDone p f) g
 then-then (done a) f g = refl
 then-then (waits w) f g = refl
 
 module _ (alive : Bool) (room : ℕ) where
   -- bytes that come in two parts come to what they come to as one
-  pub feed-append : (s t : List ℕ) (w : Waiting) → feed alive room w (s ++ t) ≡ andThen (feed alive room w s) (λ v. feed alive room v t)
+  pub feed-append : (s t : List ℕ) (w : Waiting) → feed alive room w (s ++ t) ≡ unlessDone (feed alive room w s) (λ v. feed alive room v t)
   unfolding feed
   feed-append [] t w = refl
   feed-append (b ∷ s) t w =
-      let e : (v : Waiting) → feed alive room v (s ++ t) ≡ andThen (feed alive room v s) (λ u. feed alive room u t) = λ v. feed-append s t v in
+      let e : (v : Waiting) → feed alive room v (s ++ t) ≡ unlessDone (feed alive room v s) (λ u. feed alive room u t) = λ v. feed-append s t v in
       simp e (then-then (step alive room w b) (λ v. feed alive room v s) (λ v. feed alive room v t))
 
   -- all bytes of a chunk at once
@@ -52,7 +52,7 @@ module _ (alive : Bool) (room : ℕ) where
 
   -- a header
   pub feed-header : (got : List ℕ) (used a b : ℕ) (s : List ℕ)
-      → feed alive room (chunk got used 0) (a ∷ b ∷ s) ≡ andThen (opened alive room got (used + 2) (bigEndian (a ∷ b ∷ []))) (λ w. feed alive room w s)
+      → feed alive room (chunk got used 0) (a ∷ b ∷ s) ≡ unlessDone (opened alive room got (used + 2) (bigEndian (a ∷ b ∷ []))) (λ w. feed alive room w s)
   unfolding feed
   feed-header got used a b s =
       let e : used + 1 + 1 ≡ used + 2 = omega arith in
@@ -60,7 +60,7 @@ module _ (alive : Bool) (room : ℕ) where
 
   -- the header at a place of the input
   pub feed-header-at : (got : List ℕ) (used i : ℕ) (s : List ℕ) (n : ℕ) → i + 2 ≤ length s → n ≡ bigEndian (part s i 2)
-      → feed alive room (chunk got used 0) (drop i s) ≡ andThen (opened alive room got (used + 2) n) (λ w. feed alive room w (drop (i + 2) s))
+      → feed alive room (chunk got used 0) (drop i s) ≡ unlessDone (opened alive room got (used + 2) n) (λ w. feed alive room w (drop (i + 2) s))
   feed-header-at got used i s n h e =
       let d : i + 2 ≡ suc (suc i) = omega arith in
       rw (e, d, drop-cons s i 0 (omega arith), drop-cons s (suc i) 0 (omega arith))

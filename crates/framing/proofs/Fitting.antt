@@ -9,7 +9,8 @@ use lib.ListN.{length, length-append}
 use borrow.Author.Tests.{ltb-false}
 use Rattle.numbers.specs.BigEndian.{bigEndian}
 use Rattle.refusal.specs.Answer.{Answer, result, refused, counted}
-use Rattle.framing.specs.Feed.{Reading, message, keep-alive, Waiting, chunk, header, Progress, done, waits, start, most, ended, opened, step, andThen, feed}
+use Rattle.framing.specs.Feed.{Reading, message, keep-alive, Waiting, chunk, header, Progress, done, waits, start, ended, opened, step, unlessDone, feed}
+use Rattle.bolt.specs.Limits.{mostBytes}
 use Rattle.framing.specs.Reading.{message-of, telling, closed, frameOf}
 use Rattle.framing.specs.Chunking.{chunked, writing}
 
@@ -39,7 +40,7 @@ module _ (alive : Bool) (room : ℕ) where
   ended-fits false [] used h = tt
 
   opened-holds : (got : List ℕ) (used n : ℕ) → length got ≤ room → Held room (opened alive room got used n)
-  opened-holds got used n h = by (eqb n 0) (ltb most (length got + n)) (ltb room (length got + n)) refl
+  opened-holds got used n h = by (eqb n 0) (ltb mostBytes (length got + n)) (ltb room (length got + n)) refl
     where
       by : (a b c : Bool) → ltb room (length got + n) ≡ c
           → Held room (cond a (done (ended alive got used)) (cond b (done (refused 6 0)) (cond c (done (refused 21 0)) (waits (chunk got used n)))))
@@ -59,7 +60,7 @@ module _ (alive : Bool) (room : ℕ) where
   feed-holds (b ∷ s) w h = goes (step alive room w b) (step-holds w b h) (λ v k. feed-holds s v k)
     where
       goes : (p : Progress) → Held room p → ((v : Waiting) → Holds room v → Held room (feed alive room v s))
-          → Held room (andThen p (λ v. feed alive room v s))
+          → Held room (unlessDone p (λ v. feed alive room v s))
       goes (done a) k go = k
       goes (waits v) k go = go v k
 
@@ -84,7 +85,7 @@ module _ (alive : Bool) (room : ℕ) where
 -- the length that the writer tells
 pub written-fits : (c room : ℕ) (m : List ℕ) {n : ℕ} → result n ≡ counted (writing c room m) → n ≤ room
 unfolding writing
-written-fits c room m {n} e = by (eqb (length m) 0 || (eqb c 0 || ltb 65535 c)) (ltb most (length m)) (ltb room (length (chunked c m))) refl e
+written-fits c room m {n} e = by (eqb (length m) 0 || (eqb c 0 || ltb 65535 c)) (ltb mostBytes (length m)) (ltb room (length (chunked c m))) refl e
   where
     by : (x y z : Bool) → ltb room (length (chunked c m)) ≡ z
         → result n ≡ counted (cond x (refused 22 0) (cond y (refused 6 0) (cond z (refused 21 0) (result (chunked c m))))) → n ≤ room

@@ -7,7 +7,8 @@ use lib.Dec.{ltb, eqb}
 use lib.ListN.{length}
 use Rattle.numbers.specs.BigEndian.{bigEndian}
 use Rattle.refusal.specs.Answer.{result, refused, Placed}
-use Rattle.framing.specs.Feed.{Waiting, chunk, header, Progress, done, waits, most, start, ended, andThen, feed}
+use Rattle.framing.specs.Feed.{Waiting, chunk, header, Progress, done, waits, start, ended, unlessDone, feed}
+use Rattle.bolt.specs.Limits.{mostBytes}
 use Rattle.framing.specs.Reading.{closed, frameOf}
 use Rattle.framing.specs.Chunking.{chunked, writing}
 
@@ -18,7 +19,7 @@ ended-placed false [] used = λ e. refl
 
 module _ (alive : Bool) (room : ℕ) where
   opened-placed : (x y z : Bool) (got : List ℕ) (used n : ℕ) (go : Waiting → Progress) → ((w : Waiting) → Placed (closed (go w)))
-      → Placed (closed (andThen (cond x (done (ended alive got used))
+      → Placed (closed (unlessDone (cond x (done (ended alive got used))
       (cond y (done (refused 6 0)) (cond z (done (refused 21 0)) (waits (chunk got used n))))) go))
   opened-placed true y z got used n go h = ended-placed alive got used
   opened-placed false true z got used n go h = λ e. refl
@@ -32,7 +33,7 @@ module _ (alive : Bool) (room : ℕ) where
   feed-placed (b ∷ s) (chunk got used zero) = feed-placed s (header got (used + 1) b)
   feed-placed (b ∷ s) (header got used high) =
       let n : ℕ = bigEndian (high ∷ b ∷ []) in
-      opened-placed (eqb n 0) (ltb most (length got + n)) (ltb room (length got + n)) got (used + 1) n (λ w. feed alive room w s) (feed-placed s)
+      opened-placed (eqb n 0) (ltb mostBytes (length got + n)) (ltb room (length got + n)) got (used + 1) n (λ w. feed alive room w s) (feed-placed s)
 
   pub frame-placed : (s : List ℕ) → Placed (frameOf alive room s)
   unfolding frameOf
@@ -41,7 +42,7 @@ module _ (alive : Bool) (room : ℕ) where
 pub writing-placed : (c room : ℕ) (m : List ℕ) → Placed (writing c room m)
 unfolding writing
 writing-placed c room m =
-    by (eqb (length m) 0 || (eqb c 0 || ltb 65535 c)) (ltb most (length m)) (ltb room (length (chunked c m)))
+    by (eqb (length m) 0 || (eqb c 0 || ltb 65535 c)) (ltb mostBytes (length m)) (ltb room (length (chunked c m)))
   where
     by : (x y z : Bool) → Placed (cond x (refused 22 0) (cond y (refused 6 0) (cond z (refused 21 0) (result (chunked c m)))))
     by true y z = λ e. refl

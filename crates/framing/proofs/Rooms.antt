@@ -10,7 +10,8 @@ use lib.ListN.{length}
 use borrow.Author.Tests.{ltb-false, le-ltb}
 use Rattle.numbers.specs.BigEndian.{bigEndian}
 use Rattle.refusal.specs.Answer.{refused}
-use Rattle.framing.specs.Feed.{Waiting, chunk, header, Progress, done, waits, start, most, ended, opened, step, andThen, feed}
+use Rattle.framing.specs.Feed.{Waiting, chunk, header, Progress, done, waits, start, ended, opened, step, unlessDone, feed}
+use Rattle.bolt.specs.Limits.{mostBytes}
 use Rattle.framing.specs.Reading.{closed, frameOf}
 
 abbrev Alike : Progress → Progress → Type 0
@@ -18,7 +19,7 @@ Alike p q = (p ≡ done (refused 21 0)) ⊎ (p ≡ q)
 
 module _ (alive : Bool) (room larger : ℕ) (h : room ≤ larger) where
   opened-alike : (got : List ℕ) (used n : ℕ) → Alike (opened alive room got used n) (opened alive larger got used n)
-  opened-alike got used n = by (eqb n 0) (ltb most (length got + n)) (ltb room (length got + n)) refl
+  opened-alike got used n = by (eqb n 0) (ltb mostBytes (length got + n)) (ltb room (length got + n)) refl
     where
       by : (a b c : Bool) → ltb room (length got + n) ≡ c
           → Alike (cond a (done (ended alive got used)) (cond b (done (refused 6 0)) (cond c (done (refused 21 0)) (waits (chunk got used n)))))
@@ -39,13 +40,13 @@ module _ (alive : Bool) (room larger : ℕ) (h : room ≤ larger) where
   feed-alike [] w = inr refl
   feed-alike (b ∷ s) w = goes (step alive room w b) (step alive larger w b) (step-alike w b) (λ v. feed-alike s v)
     where
-      same : (q : Progress) → ((v : Waiting) → Alike (feed alive room v s) (feed alive larger v s)) → Alike (andThen q (λ v. feed alive room v s)) (andThen q (λ v. feed alive larger v s))
+      same : (q : Progress) → ((v : Waiting) → Alike (feed alive room v s) (feed alive larger v s)) → Alike (unlessDone q (λ v. feed alive room v s)) (unlessDone q (λ v. feed alive larger v s))
       same (done a) go = inr refl
       same (waits v) go = go v
 
       goes : (p q : Progress) → Alike p q → ((v : Waiting) → Alike (feed alive room v s) (feed alive larger v s))
-          → Alike (andThen p (λ v. feed alive room v s)) (andThen q (λ v. feed alive larger v s))
-      goes p q (inl e) go = inl (ap (λ (x : Progress). andThen x (λ v. feed alive room v s)) e)
+          → Alike (unlessDone p (λ v. feed alive room v s)) (unlessDone q (λ v. feed alive larger v s))
+      goes p q (inl e) go = inl (ap (λ (x : Progress). unlessDone x (λ v. feed alive room v s)) e)
       goes p q (inr e) go = rw e (same q go)
 
   -- a frame

@@ -12,7 +12,8 @@ use borrow.Author.Tests.{ne-eqb, le-ltb, leb-true}
 use Rattle.numbers.specs.BigEndian.{bigEndian, bytesOf}
 use Rattle.numbers.proofs.BigEndian.{read-back}
 use Rattle.refusal.specs.Answer.{result}
-use Rattle.framing.specs.Feed.{message, chunk, most, feed}
+use Rattle.framing.specs.Feed.{message, chunk, feed}
+use Rattle.bolt.specs.Limits.{mostBytes}
 use Rattle.framing.specs.Reading.{closed, frameOf, used}
 use Rattle.framing.specs.Chunking.{chunkOf, end, remainder, wholes, chunked}
 use Rattle.framing.specs.RoundTrip.{Sent, chunks, empty, sendable, wire, arrives, allSendable, wireAll, arriveAll, framesOf, RoundTrip}
@@ -28,7 +29,7 @@ empty-read room false e s = absurd (false≢true e)
 
 module _ (alive : Bool) (room : ℕ) where
   -- one chunk
-  chunk-read : (v got : List ℕ) (at : ℕ) (s : List ℕ) → 0 < length v → length got + length v ≤ most → length got + length v ≤ room
+  chunk-read : (v got : List ℕ) (at : ℕ) (s : List ℕ) → 0 < length v → length got + length v ≤ mostBytes → length got + length v ≤ room
       → feed alive room (chunk got at 0) (chunkOf v ++ s) ≡ feed alive room (chunk (got ++ v) (at + (length v + 2)) 0) s
   unfolding bytesOf
   chunk-read v got at s pos small fits =
@@ -37,7 +38,7 @@ module _ (alive : Bool) (room : ℕ) where
       let u : at + 2 + n ≡ at + (n + 2) = omega arith in
       let h : n ≤ length (v ++ s) = simp length-append (omega arith) in
       feed-header alive room got at (n / 256 % 256) (n / 1 % 256) (v ++ s)
-      ∙ simp (e, ne-eqb n 0 (λ z. omega arith), le-ltb most (length got + n) small, le-ltb room (length got + n) fits)
+      ∙ simp (e, ne-eqb n 0 (λ z. omega arith), le-ltb mostBytes (length got + n) small, le-ltb room (length got + n) fits)
       (feed-chunk alive room n got (at + 2) (v ++ s) h ∙ rw (take-at v s n refl, drop-at v s n refl, u) refl)
 
   -- the end of a message
@@ -45,7 +46,7 @@ module _ (alive : Bool) (room : ℕ) where
   unfolding bigEndian
   end-read got at s h = ap closed (feed-header alive room got at 0 0 s) ∙ some-ended alive got (at + 2) h
 
-  rest-read : (m got : List ℕ) (at : ℕ) (s : List ℕ) → 0 < length got + length m → length got + length m ≤ most → length got + length m ≤ room
+  rest-read : (m got : List ℕ) (at : ℕ) (s : List ℕ) → 0 < length got + length m → length got + length m ≤ mostBytes → length got + length m ≤ room
       → closed (feed alive room (chunk got at 0) ((remainder m ++ end) ++ s)) ≡ result (message (got ++ m) (at + length (remainder m ++ end)))
   rest-read [] got at s pos small fits = end-read got at s (omega (arith, pos)) ∙ rw append-nil refl
   rest-read (b ∷ m) got at s pos small fits =
@@ -58,7 +59,7 @@ module _ (alive : Bool) (room : ℕ) where
       ∙ ap (λ (k : ℕ). result (message (got ++ v) k)) u
 
   wholes-read : (q r c : ℕ) (m got : List ℕ) (at : ℕ) (s : List ℕ) → length m ≡ q * c + r → 0 < c
-      → 0 < length got + length m → length got + length m ≤ most → length got + length m ≤ room
+      → 0 < length got + length m → length got + length m ≤ mostBytes → length got + length m ≤ room
       → closed (feed alive room (chunk got at 0) (wholes q c m ++ s)) ≡ result (message (got ++ m) (at + length (wholes q c m)))
   unfolding wholes
   wholes-read zero r c m got at s h c+ pos small fits = rest-read m got at s pos small fits
@@ -76,7 +77,7 @@ module _ (alive : Bool) (room : ℕ) where
       ∙ wholes-read q r c (drop c m) (got ++ v) (at + (length v + 2)) s ld c+ (omega arith) (omega arith) (omega arith)
       ∙ rw (g, u) refl
 
-  chunked-read : (c : ℕ) (m s : List ℕ) → 0 < c → 0 < length m → length m ≤ most → length m ≤ room
+  chunked-read : (c : ℕ) (m s : List ℕ) → 0 < c → 0 < length m → length m ≤ mostBytes → length m ≤ room
       → frameOf alive room (chunked c m ++ s) ≡ result (message m (length (chunked c m)))
   unfolding frameOf chunked
   chunked-read c m s c+ pos small fits =
@@ -88,8 +89,8 @@ module _ (alive : Bool) (room : ℕ) where
       let a = and-eq-true-iff (leb 1 c) _ .0 e in
       let b = and-eq-true-iff (leb c 65535) _ .0 (a .1) in
       let d = and-eq-true-iff (leb 1 (length m)) _ .0 (b .1) in
-      let f = and-eq-true-iff (leb (length m) most) _ .0 (d .1) in
-      chunked-read c m after (leb-true 1 c (a .0)) (leb-true 1 (length m) (d .0)) (leb-true (length m) most (f .0)) (leb-true (length m) room (f .1))
+      let f = and-eq-true-iff (leb (length m) mostBytes) _ .0 (d .1) in
+      chunked-read c m after (leb-true 1 c (a .0)) (leb-true 1 (length m) (d .0)) (leb-true (length m) mostBytes (f .0)) (leb-true (length m) room (f .1))
   one empty after e = empty-read room alive e after
 
   -- exactly the bytes of a reading are passed

@@ -11,7 +11,8 @@ use Rattle.slices.specs.Parts.{part}
 use Rattle.slices.proofs.Parts.{length-part}
 use Rattle.numbers.specs.BigEndian.{bigEndian}
 use Rattle.refusal.specs.Answer.{result, refused}
-use Rattle.framing.specs.Feed.{message, chunk, start, most, ended, opened, andThen, feed}
+use Rattle.framing.specs.Feed.{message, chunk, start, ended, opened, unlessDone, feed}
+use Rattle.bolt.specs.Limits.{mostBytes}
 use Rattle.framing.specs.Reading.{closed, frameOf}
 use Rattle.framing.proofs.Feeding.{feed-chunk, feed-cut, feed-few, feed-header-at}
 
@@ -41,7 +42,7 @@ module _ {alive : Bool} {room : ℕ} {s : List ℕ} {at sum : ℕ} (w : Came ali
 
   -- a header of n has come
   module _ {n : ℕ} (fits : at + 2 ≤ length s) (size : n ≡ bigEndian (part s at 2)) where
-    at-header : frameOf alive room s ≡ closed (andThen (opened alive room (w .got) (at + 2) n) (λ v. feed alive room v (drop (at + 2) s)))
+    at-header : frameOf alive room s ≡ closed (unlessDone (opened alive room (w .got) (at + 2) n) (λ v. feed alive room v (drop (at + 2) s)))
     unfolding frameOf
     at-header = ap closed (w .reads ∙ feed-header-at alive room (w .got) at at s n fits size)
 
@@ -52,17 +53,17 @@ module _ {alive : Bool} {room : ℕ} {s : List ℕ} {at sum : ℕ} (w : Came ali
     at-none e h = at-header ∙ simp (eq-eqb n 0 e, none-ended alive (w .got) (at + 2) (w .count ∙ h))
 
     module _ (more : n ≡ 0 → ⊥) where
-      pub at-long : most < sum + n → frameOf alive room s ≡ refused 6 0
-      at-long h = at-header ∙ simp (ne-eqb n 0 more, w .count, lt-ltb most (sum + n) h)
+      pub at-long : mostBytes < sum + n → frameOf alive room s ≡ refused 6 0
+      at-long h = at-header ∙ simp (ne-eqb n 0 more, w .count, lt-ltb mostBytes (sum + n) h)
 
-      module _ (small : sum + n ≤ most) where
+      module _ (small : sum + n ≤ mostBytes) where
         pub at-room : room < sum + n → frameOf alive room s ≡ refused 21 0
-        at-room h = at-header ∙ simp (ne-eqb n 0 more, w .count, le-ltb most (sum + n) small, lt-ltb room (sum + n) h)
+        at-room h = at-header ∙ simp (ne-eqb n 0 more, w .count, le-ltb mostBytes (sum + n) small, lt-ltb room (sum + n) h)
 
         module _ (room-for : sum + n ≤ room) where
           pub at-cut : length s - at - 2 < n → frameOf alive room s ≡ refused 4 0
           at-cut h =
-              at-header ∙ simp (ne-eqb n 0 more, w .count, le-ltb most (sum + n) small, le-ltb room (sum + n) room-for)
+              at-header ∙ simp (ne-eqb n 0 more, w .count, le-ltb mostBytes (sum + n) small, le-ltb room (sum + n) room-for)
               (feed-cut alive room n (w .got) (at + 2) (drop (at + 2) s) (simp length-drop (omega arith)))
 
           -- the chunk has come whole: the reading goes on at the next header
@@ -75,7 +76,7 @@ module _ {alive : Bool} {room : ℕ} {s : List ℕ} {at sum : ℕ} (w : Came ali
                 count = length-append (w .got) (part s (at + 2) n) ∙ rw (w .count, length-part s (at + 2) n (omega arith)) refl;
                 reads =
                     w .reads ∙ feed-header-at alive room (w .got) at at s n fits size
-                    ∙ simp (ne-eqb n 0 more, w .count, le-ltb most (sum + n) small, le-ltb room (sum + n) room-for)
+                    ∙ simp (ne-eqb n 0 more, w .count, le-ltb mostBytes (sum + n) small, le-ltb room (sum + n) room-for)
                     (feed-chunk alive room n (w .got) (at + 2) (drop (at + 2) s) l ∙ rw (drop-drop, e) refl);
               }
 
@@ -83,7 +84,7 @@ module _ {alive : Bool} {room : ℕ} {s : List ℕ} {at sum : ℕ} (w : Came ali
 -- at a header: `thin`, since each chunk has a byte at least; so with nothing got the scan stands at the front
 pub record AtHeader (alive : Bool) (room : ℕ) (s : List ℕ) (at sum : ℕ) : Type 0 where
   pub inside : at ≤ length s
-  pub small : sum ≤ most
+  pub small : sum ≤ mostBytes
   pub thin : at ≤ 3 * sum
   pub came : Came alive room s at sum
 
@@ -94,14 +95,14 @@ pub record InRun (alive : Bool) (room : ℕ) (s : List ℕ) (first n at sum : �
   pub size : n ≡ bigEndian (part s at 2)
   pub narrow : n < 65536
   pub some : n ≡ 0 → ⊥
-  pub small : sum ≤ most
+  pub small : sum ≤ mostBytes
   pub thin : at ≤ 3 * sum
   pub came : Came alive room s at sum
 
 -- one more chunk of the run has come whole
 module _
     {alive : Bool} {room : ℕ} {s : List ℕ} {first n at sum : ℕ} (r : InRun alive room s first n at sum)
-    (small : sum + n ≤ most) (room-for : sum + n ≤ room) (whole : n ≤ length s - at - 2)
+    (small : sum + n ≤ mostBytes) (room-for : sum + n ≤ room) (whole : n ≤ length s - at - 2)
   where
     pub run-came : Came alive room s (at + (n + 2)) (sum + n)
     run-came = at-next (r .came) (r .fits) (r .size) (r .some) small room-for whole

@@ -5,7 +5,8 @@ use Prim.Native.Nat.{ℕ}
 use native.Mathlib.Omega.{arith}
 use Rattle.refusal.specs.Answer.{Answer, result, refused, left}
 use Rattle.framing.specs.Feed.{Reading, message, keep-alive}
-use Rattle.framing.specs.Reading.{message-of, keep-alive-of, telling, leaves, IsMessage}
+use Rattle.framing.specs.Reading.{message-of, keep-alive-of, telling, leaves}
+use Rattle.framing.specs.Private.Copying.{IsMessage}
 
 -- no two of the answers are the same
 clash : _≡_ {A = ℕ} 0 1 → ⊥

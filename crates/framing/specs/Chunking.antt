@@ -2,13 +2,12 @@
 use Prim.Native.Nat.{ℕ, zero, suc, _/_}
 use mathlib.Core.Bool.{cond, _||_}
 use mathlib.Core.List.{List, [], _∷_, _++_}
-use mathlib.Core.Path.{_≡_, refl}
 use lib.Dec.{ltb, eqb}
 use lib.ListN.{length, take, drop}
 use Rattle.numbers.specs.BigEndian.{bytesOf}
 use Rattle.refusal.specs.Numbers.{numberOf}
 use Rattle.refusal.specs.Answer.{Answer, result, refused}
-use Rattle.framing.specs.Feed.{most}
+use Rattle.bolt.specs.Limits.{mostBytes}
 use Rattle.framing.specs.declared.writer.Written.{Written}
 use Rattle.framing.specs.declared.writer.Written.the-variants.{Bytes, Refused}
 
@@ -38,7 +37,7 @@ chunked c m = wholes (length m / c) c m
 unfoldable pub writing : ℕ → ℕ → List ℕ → Answer (List ℕ)
 writing c room m =
     cond (eqb (length m) 0 || (eqb c 0 || ltb 65535 c)) (refused 22 0)
-    (cond (ltb most (length m)) (refused 6 0)
+    (cond (ltb mostBytes (length m)) (refused 6 0)
     (cond (ltb room (length (chunked c m))) (refused 21 0)
     (result (chunked c m))))
 
@@ -46,8 +45,3 @@ writing c room m =
 abbrev pub told : Written → Answer ℕ
 told (Bytes n) = result n
 told (Refused why) = refused (numberOf why) 0
-
--- three bytes in chunks of two
-example : chunked 2 (1 ∷ 2 ∷ 3 ∷ []) ≡ 0 ∷ 2 ∷ 1 ∷ 2 ∷ 0 ∷ 1 ∷ 3 ∷ 0 ∷ 0 ∷ []
-unfolding chunked wholes bytesOf
-example = refl

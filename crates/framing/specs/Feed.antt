@@ -6,6 +6,7 @@ use lib.Dec.{ltb, eqb}
 use lib.ListN.{length}
 use Rattle.numbers.specs.BigEndian.{bigEndian}
 use Rattle.refusal.specs.Answer.{Answer, result, refused}
+use Rattle.bolt.specs.Limits.{mostBytes}
 
 -- what stands at the front of the bytes: a message, or a keep-alive; each with how many bytes it takes
 pub data Reading : Type 0 where
@@ -26,10 +27,6 @@ pub data Progress : Type 0 where
 abbrev pub start : Waiting
 start = chunk [] 0 0
 
--- a message has at most 16,384 bytes
-abbrev pub most : ℕ
-most = 16384
-
 -- a size of zero ends the message; with no message bytes before it, it is a keep-alive in 4.1 and 4.2 and refusal 5 in 4.0
 abbrev pub ended : Bool → List ℕ → ℕ → Answer Reading
 ended alive (b ∷ got) used = result (message (b ∷ got) used)
@@ -40,7 +37,7 @@ ended false [] used = refused 5 0
 abbrev pub opened : Bool → ℕ → List ℕ → ℕ → ℕ → Progress
 opened alive room got used n =
     cond (eqb n 0) (done (ended alive got used))
-    (cond (ltb most (length got + n)) (done (refused 6 0))
+    (cond (ltb mostBytes (length got + n)) (done (refused 6 0))
     (cond (ltb room (length got + n)) (done (refused 21 0))
     (waits (chunk got used n))))
 
@@ -51,11 +48,11 @@ step alive room (chunk got used zero) b = waits (header got (used + 1) b)
 step alive room (header got used high) b = opened alive room got (used + 1) (bigEndian (high ∷ b ∷ []))
 
 -- what is done stays; what waits goes on
-abbrev pub andThen : Progress → (Waiting → Progress) → Progress
-andThen (done a) go = done a
-andThen (waits w) go = go w
+abbrev pub unlessDone : Progress → (Waiting → Progress) → Progress
+unlessDone (done a) go = done a
+unlessDone (waits w) go = go w
 
 -- the bytes that come, one after the other
 unfoldable pub feed : Bool → ℕ → Waiting → List ℕ → Progress
 feed alive room w [] = waits w
-feed alive room w (b ∷ s) = andThen (step alive room w b) (λ v. feed alive room v s)
+feed alive room w (b ∷ s) = unlessDone (step alive room w b) (λ v. feed alive room v s)

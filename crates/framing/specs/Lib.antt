@@ -2,3 +2,5 @@ pub mod Feed
 pub mod Reading
 pub mod Chunking
 pub mod RoundTrip
+pub mod Cases
+pub mod Private

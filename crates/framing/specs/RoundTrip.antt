@@ -6,7 +6,8 @@ use mathlib.Core.Path.{_≡_}
 use lib.Dec.{leb}
 use lib.ListN.{length, drop}
 use Rattle.refusal.specs.Answer.{Answer, result, consumed}
-use Rattle.framing.specs.Feed.{Reading, message, keep-alive, most}
+use Rattle.framing.specs.Feed.{Reading, message, keep-alive}
+use Rattle.bolt.specs.Limits.{mostBytes}
 use Rattle.framing.specs.Reading.{frameOf, used}
 use Rattle.framing.specs.Chunking.{chunked, end}
 
@@ -17,7 +18,7 @@ pub data Sent : Type 0 where
 
 -- a message of 1 to 16,384 bytes that the lent buffer holds, in chunks of 1 to 65,535; a keep-alive where the version has them
 abbrev pub sendable : Bool → ℕ → Sent → Bool
-sendable alive room (chunks c m) = leb 1 c && (leb c 65535 && (leb 1 (length m) && (leb (length m) most && leb (length m) room)))
+sendable alive room (chunks c m) = leb 1 c && (leb c 65535 && (leb 1 (length m) && (leb (length m) mostBytes && leb (length m) room)))
 sendable alive room empty = alive
 
 -- its bytes, and what a reader makes of them

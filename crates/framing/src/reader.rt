@@ -7,7 +7,9 @@ ghost use Rattle.slices.specs.Parts.{part};
 ghost use Rattle.numbers.specs.BigEndian.{bigEndian};
 ghost use Rattle.handshake.specs.Version.{keepsAlive};
 ghost use Rattle.refusal.specs.Answer.{left};
-ghost use Rattle.framing.specs.Reading.{frameOf, telling, told, leaves, IsMessage};
+ghost use Rattle.framing.specs.Reading.{frameOf, telling, told, leaves};
+ghost use Rattle.framing.specs.Private.Copying.{IsMessage};
+use bolt::MOST_BYTES;
 use handshake::version::Version;
 use refusal::Refusal;
 
@@ -53,7 +55,7 @@ fn scan(keep_alive: bool, input: &[u8], room: usize) -> Frame
             return Frame::Refused(Refusal::EmptyMessage);
         }
         loop {
-            if 16384 < sum + size {
+            if MOST_BYTES < sum + size {
                 return Frame::Refused(Refusal::TooLong);
             }
             if room < sum + size {

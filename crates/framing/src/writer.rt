@@ -6,6 +6,7 @@ ghost use lib.Seq.{sets};
 ghost use Rattle.slices.specs.Parts.{part, front};
 ghost use Rattle.refusal.specs.Answer.{counted, left};
 ghost use Rattle.framing.specs.Chunking.{chunkOf, chunked, end, writing, told};
+use bolt::MOST_BYTES;
 use refusal::Refusal;
 
 // What the chunk writer answers: how many bytes it wrote, or why it wrote none.
@@ -84,7 +85,7 @@ pub fn write_chunks(message: &[u8], chunk_size: usize, out: &mut [u8]) -> Writte
     if 65535 < chunk_size {
         return Written::Refused(Refusal::InvalidChunking);
     }
-    if 16384 < message.len() {
+    if MOST_BYTES < message.len() {
         return Written::Refused(Refusal::TooLong);
     }
     let total = chunked_length(message, chunk_size);

@@ -10,7 +10,8 @@ use lib.ListN.{length, getD}
 use lib.Seq.{drop-cons}
 use borrow.Author.Tests.{eq-eqb, ne-eqb}
 use Rattle.slices.specs.Parts.{part}
-use Rattle.handshake.specs.Version.{proposed, among, same, bytesOf}
+use Rattle.handshake.specs.Version.{proposed, among, bytesOf}
+use Rattle.slices.specs.Equality.{same}
 
 -- four elements, one by one
 pub four : (b : List ℕ) → length b ≡ 4 → b ≡ getD b 0 0 ∷ getD b 1 0 ∷ getD b 2 0 ∷ getD b 3 0 ∷ []

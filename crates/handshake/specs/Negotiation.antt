@@ -3,12 +3,11 @@ use Prim.Native.Nat.{ℕ, zero, suc}
 use mathlib.Core.Bool.{Bool, true, cond, _&&_}
 use mathlib.Core.List.{List, [], _∷_}
 use mathlib.Core.Option.{Option, none, some}
-use mathlib.Core.Path.{_≡_, refl}
 use lib.Dec.{ltb, eqb}
 use lib.ListN.{length, take, drop}
 use Rattle.refusal.specs.Numbers.{numberOf}
 use Rattle.refusal.specs.Answer.{Answer, result, refused}
-use Rattle.handshake.specs.Version.{proposed, among, same}
+use Rattle.handshake.specs.Version.{proposed}
 use Rattle.handshake.specs.declared.negotiation.Negotiation.{Negotiation}
 use Rattle.handshake.specs.declared.negotiation.Negotiation.the-variants.{Agreed, Refused}
 
@@ -43,17 +42,3 @@ negotiated s =
 abbrev pub told : Negotiation → Answer ℕ
 told (Agreed version) = result (version .minor)
 told (Refused why) = refused (numberOf why) 0
-
--- ★ empty input
-empty : negotiated [] ≡ refused 1 0
-unfolding negotiated agrees
-empty = refl
-
-wrong-before-short : negotiated (0x60 ∷ 0x61 ∷ []) ≡ refused 2 0
-unfolding negotiated agrees
-wrong-before-short = refl
-
--- 4.3 is not known, 4.1 is preferred to 4.0
-first-known : negotiated (0x60 ∷ 0x60 ∷ 0xB0 ∷ 0x17 ∷ 0 ∷ 0 ∷ 3 ∷ 4 ∷ 0 ∷ 0 ∷ 1 ∷ 4 ∷ 0 ∷ 0 ∷ 0 ∷ 4 ∷ 0 ∷ 0 ∷ 0 ∷ 0 ∷ []) ≡ result 1
-unfolding negotiated agrees chosen among same
-first-known = refl

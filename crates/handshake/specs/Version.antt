@@ -1,11 +1,12 @@
 -- The versions known and their bytes (document 01, "Handshake"), and which have keep-alives ("Frames"). Assumes nothing.
 use Prim.Native.Nat.{ℕ}
-use mathlib.Core.Bool.{Bool, true, false, cond, _&&_}
+use mathlib.Core.Bool.{Bool, cond}
 use mathlib.Core.List.{List, [], _∷_}
 use mathlib.Core.Option.{Option, none, some}
-use lib.Dec.{leb, eqb}
+use lib.Dec.{leb}
 use Rattle.handshake.specs.declared.version.Proposal.{Proposal}
 use Rattle.handshake.specs.declared.version.Proposal.the-variants.{Known, Unknown}
+use Rattle.slices.specs.Equality.{same}
 
 -- 4.0, 4.1 and 4.2, by their minor numbers
 abbrev pub known : List ℕ
@@ -14,13 +15,6 @@ known = 0 ∷ 1 ∷ 2 ∷ []
 -- a version is written `00 00 minor major`
 abbrev pub bytesOf : ℕ → List ℕ
 bytesOf minor = 0 ∷ 0 ∷ minor ∷ 4 ∷ []
-
--- two lists of bytes are the same
-unfoldable pub same : List ℕ → List ℕ → Bool
-same [] [] = true
-same [] (b ∷ t) = false
-same (a ∷ s) [] = false
-same (a ∷ s) (b ∷ t) = eqb a b && same s t
 
 -- the one of these versions whose bytes are the ones given
 unfoldable pub among : List ℕ → List ℕ → Option ℕ

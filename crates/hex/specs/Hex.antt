@@ -2,7 +2,6 @@
 use Prim.Native.Nat.{ℕ, _+_, _-_, _*_, _/_, _%_}
 use mathlib.Core.Bool.{Bool, true, cond, _&&_, _||_}
 use mathlib.Core.List.{List, [], _∷_}
-use mathlib.Core.Path.{_≡_, refl}
 use lib.Dec.{leb, ltb, eqb}
 use lib.ListN.{length, getD}
 use Rattle.refusal.specs.Numbers.{numberOf}
@@ -69,12 +68,3 @@ bytesTold (D.Refused why) = refused (numberOf why) 0
 abbrev pub charactersTold : Encoded → Answer ℕ
 charactersTold (E.Characters n) = result n
 charactersTold (E.Refused why) = refused (numberOf why) 0
-
--- the line `C0`, and `c0`, which is none
-example : decoding 1 (0x43 ∷ 0x30 ∷ []) ≡ result (0xC0 ∷ [])
-unfolding decoding isLine allDigits isDigit toBytes valueOf
-example = refl
-
-lower-case : decoding 1 (0x63 ∷ 0x30 ∷ []) ≡ refused 23 0
-unfolding decoding isLine allDigits isDigit toBytes valueOf
-lower-case = refl

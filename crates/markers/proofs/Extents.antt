@@ -21,11 +21,12 @@ use Rattle.numbers.proofs.Access.{unsigned-found, lies-lt}
 use Rattle.numbers.proofs.BigEndian.{pow256-mono}
 use Rattle.refusal.specs.declared.Refusal.{Refusal}
 use Rattle.refusal.specs.declared.Refusal.the-variants.{ValueTruncated, ReservedMarker, TooDeep, KeyNotString}
-use Rattle.markers.specs.Marker.{itself, small, markerOf, isString, hasSize}
+use Rattle.markers.specs.Marker.{itself, small, markerOf, isString}
+use Rattle.markers.specs.Private.Sizes.{hasSize}
 use Rattle.markers.specs.Extents.{sizeAt, onSize, leafExtent, containerExtent, kindExtent, extentAt, keyKindExtent, keyExtentAt}
-use Rattle.markers.specs.declared.marker.Leaf.{Leaf}
-use Rattle.markers.specs.declared.marker.Leaf.the-variants as L
-use Rattle.markers.specs.declared.marker.Container.{Container}
+use Rattle.markers.specs.declared.kind.Leaf.{Leaf}
+use Rattle.markers.specs.declared.kind.Leaf.the-variants as L
+use Rattle.markers.specs.declared.kind.Container.{Container}
 use Rattle.markers.specs.declared.marker.Kind.{Kind}
 use Rattle.markers.specs.declared.marker.Kind.the-variants as K
 use Rattle.markers.specs.declared.marker.Marker.{Marker}

@@ -11,11 +11,12 @@ use lib.Dec.{ltb, leb, eqb}
 use borrow.Author.Tests.{eq-eqb, ne-eqb, ltb-true, leb-true, eqb-true, lt-leb}
 use Rattle.slices.proofs.Below.{below}
 use Rattle.slices.proofs.Tests.{lt-or-ge}
-use Rattle.markers.specs.Marker.{reserved, itself, small, sized, Row, table, lookup, markerOf, hasSize}
-use Rattle.markers.specs.declared.marker.Leaf.{Leaf}
-use Rattle.markers.specs.declared.marker.Leaf.the-variants as L
-use Rattle.markers.specs.declared.marker.Container.{Container}
-use Rattle.markers.specs.declared.marker.Container.the-variants as C
+use Rattle.markers.specs.Marker.{reserved, itself, small, sized, Row, table, lookup, markerOf}
+use Rattle.markers.specs.Private.Sizes.{hasSize}
+use Rattle.markers.specs.declared.kind.Leaf.{Leaf}
+use Rattle.markers.specs.declared.kind.Leaf.the-variants as L
+use Rattle.markers.specs.declared.kind.Container.{Container}
+use Rattle.markers.specs.declared.kind.Container.the-variants as C
 use Rattle.markers.specs.declared.marker.Kind.{Kind}
 use Rattle.markers.specs.declared.marker.Kind.the-variants as K
 use Rattle.markers.specs.declared.marker.Marker.{Marker}

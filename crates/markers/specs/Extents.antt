@@ -10,10 +10,8 @@ use Rattle.numbers.specs.declared.Unsigned.{Unsigned}
 use Rattle.numbers.specs.declared.Unsigned.the-variants as U
 use Rattle.refusal.specs.declared.Refusal.the-variants.{ValueTruncated, ReservedMarker, TooDeep, KeyNotString}
 use Rattle.markers.specs.Marker.{markerOf, isString}
-use Rattle.markers.specs.declared.marker.Leaf.the-variants as L
-use Rattle.markers.specs.declared.marker.Leaf.{Leaf}
-use Rattle.markers.specs.declared.marker.Container.the-variants as C
-use Rattle.markers.specs.declared.marker.Container.{Container}
+use Rattle.markers.specs.declared.kind.Leaf.{Leaf}
+use Rattle.markers.specs.declared.kind.Container.{Container}
 use Rattle.markers.specs.declared.marker.Kind.the-variants as K
 use Rattle.markers.specs.declared.marker.Kind.{Kind}
 use Rattle.markers.specs.declared.marker.Marker.{Marker}
@@ -23,10 +21,6 @@ use Rattle.markers.specs.declared.extent.Extent.{Extent}
 -- "at most 16 containers may be open"
 abbrev pub mostOpen : ℕ
 mostOpen = 16
-
--- "a message has at most 16,384 bytes"
-abbrev pub mostBytes : ℕ
-mostBytes = 16384
 
 -- the size that a marker at `at` gives, itself or in the bytes after it
 abbrev pub sizeAt : List ℕ → ℕ → Marker → Unsigned

@@ -1,3 +1,4 @@
 pub mod Value
 pub mod Marker
 pub mod Extents
+pub mod Private

@@ -2,11 +2,10 @@
 use Prim.Native.Nat.{ℕ, _%_}
 use mathlib.Core.Bool.{Bool, true, false, cond, _&&_}
 use mathlib.Core.List.{List, [], _∷_}
-use lib.Dec.{leb, eqb}
-use Rattle.numbers.specs.Access.{isWidth}
-use Rattle.markers.specs.declared.marker.Leaf.{Leaf}
-use Rattle.markers.specs.declared.marker.Leaf.the-variants.{Null, Boolean, Integer, Float, Bytes, String}
-use Rattle.markers.specs.declared.marker.Container.the-variants.{List as ListKind, Dictionary, Structure}
+use lib.Dec.{leb}
+use Rattle.markers.specs.declared.kind.Leaf.{Leaf}
+use Rattle.markers.specs.declared.kind.Leaf.the-variants.{Null, Boolean, Integer, Float, Bytes, String}
+use Rattle.markers.specs.declared.kind.Container.the-variants.{List as ListKind, Dictionary, Structure}
 use Rattle.markers.specs.declared.marker.Kind.{Kind}
 use Rattle.markers.specs.declared.marker.Kind.the-variants as K
 use Rattle.markers.specs.declared.marker.Marker.{Marker}
@@ -100,12 +99,3 @@ isString Integer = false
 isString Float = false
 isString Bytes = false
 isString String = true
-
--- n bytes can be the content of this kind: the table leaves it to the size for Bytes and Strings alone
-abbrev pub hasSize : Leaf → ℕ → Bool
-hasSize Null n = true
-hasSize Boolean n = eqb n 1
-hasSize Integer n = isWidth n
-hasSize Float n = eqb n 8
-hasSize Bytes n = true
-hasSize String n = true

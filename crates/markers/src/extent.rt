@@ -5,14 +5,17 @@ ghost use Prim.Native.Nat.{_≤_, _<_};
 ghost use lib.ListN.{length};
 ghost use Rattle.markers.specs.Marker.{small, isString};
 ghost use Rattle.markers.specs.Extents.{sizeAt, leafExtent, containerExtent, extentAt, keyExtentAt};
-use crate::marker::Container;
+use crate::kind::Container;
+use crate::kind::Leaf;
+use crate::kind::is_string;
 use crate::marker::Kind;
-use crate::marker::Leaf;
 use crate::marker::Marker;
-use crate::marker::is_string;
 use crate::marker::split;
 use numbers::Unsigned;
 use refusal::Refusal;
+
+// At most so many containers may be open.
+pub const MOST_OPEN: usize = 16;
 
 // What lies at an offset.
 pub enum Extent {
@@ -32,12 +35,6 @@ pub enum Extent {
         refusal: Refusal,
         place: usize,
     },
-}
-
-// What is read where a key is wanted: where its content lies.
-pub enum Key {
-    String { start: usize, size: usize },
-    Refused { refusal: Refusal, place: usize },
 }
 
 fn refused(refusal: Refusal, place: usize) -> Extent

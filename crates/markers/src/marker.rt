@@ -3,24 +3,9 @@ ghost use mathlib.Core.Path.{_≡_};
 ghost use Prim.Native.Nat.{_+_, _≤_, _<_};
 ghost use mathlib.Core.Bool.{cond};
 ghost use lib.Dec.{eqb};
-ghost use Rattle.markers.specs.Marker.{reserved, itself, small, sized, markerOf, isString};
-
-// The kinds of value that hold no other.
-pub enum Leaf {
-    Null,
-    Boolean,
-    Integer,
-    Float,
-    Bytes,
-    String,
-}
-
-// The kinds that hold others.
-pub enum Container {
-    List,
-    Dictionary,
-    Structure,
-}
+ghost use Rattle.markers.specs.Marker.{reserved, itself, small, sized, markerOf};
+use crate::kind::Container;
+use crate::kind::Leaf;
 
 // What a marker stands for.
 pub enum Kind {
@@ -132,18 +117,5 @@ pub fn split(marker: u8) -> Marker
         13 => wide(marker),
         14 => reserved(),
         _ => itself(Leaf::Integer),
-    }
-}
-
-pub fn is_string(kind: Leaf) -> bool
-    ensures { λ r. ⌜ r ≡ isString kind ⌝ }
-{
-    match kind {
-        Leaf::Null => false,
-        Leaf::Boolean => false,
-        Leaf::Integer => false,
-        Leaf::Float => false,
-        Leaf::Bytes => false,
-        Leaf::String => true,
     }
 }

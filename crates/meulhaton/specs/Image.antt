@@ -11,7 +11,8 @@ use Rattle.connection.specs.declared.record.Request.{Request}
 use Rattle.connection.specs.declared.record.Request.the-variants.{Hello, Goodbye, Reset, Run, Begin, Commit, Rollback, Discard, Pull}
 use Rattle.connection.specs.declared.record.Slot.{Slot}
 use Rattle.connection.specs.declared.record.Connection.{Connection}
-use Rattle.connection.specs.Requests.{rank, tag, HELLO, GOODBYE, RESET, RUN, BEGIN, COMMIT, ROLLBACK, DISCARD, PULL, any}
+use Rattle.connection.specs.Requests.{rank, any}
+use Rattle.bolt.specs.Requests.{tag, HELLO, GOODBYE, RESET, RUN, BEGIN, COMMIT, ROLLBACK, DISCARD, PULL}
 use Rattle.connection.specs.Record.{slot, requestIn}
 use Rattle.meulhaton.specs.declared.image.RequestImage.{RequestImage}
 use Rattle.meulhaton.specs.declared.image.Image.{Image}

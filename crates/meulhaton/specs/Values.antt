@@ -4,8 +4,8 @@ use mathlib.Core.Bool.{cond}
 use lib.IntN.{ℤ, pos}
 use Rattle.refusal.specs.Answer.{Answer, result, refused}
 use Rattle.values.specs.Reading.{Found}
-use Rattle.values.specs.declared.read.Head.{Head}
-use Rattle.values.specs.declared.read.Head.the-variants as H
+use Rattle.values.specs.declared.head.Head.{Head}
+use Rattle.values.specs.declared.head.Head.the-variants as H
 use Rattle.meulhaton.specs.declared.value.HeadImage.{HeadImage}
 use Rattle.meulhaton.specs.declared.value.ValueRead.{ValueRead}
 

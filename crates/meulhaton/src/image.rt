@@ -7,6 +7,7 @@ ghost use lib.ListN.{take};
 ghost use Rattle.connection.specs.Requests.{rank, any};
 ghost use Rattle.connection.specs.Record.{fresh as freshRecord};
 ghost use Rattle.meulhaton.specs.Image.{stateOf, requestOf, requestImage, bare, batch, isState, isRequest, unnamed, names, slotOf, slotImage, recordOf, imageOf};
+use connection::record;
 use connection::record::Connection;
 use connection::record::Control;
 use connection::record::Queue;
@@ -64,25 +65,10 @@ fn state_of(number: u8) -> State
     State::Defunct
 }
 
-fn state_number(state: State) -> u8
-    ensures { λ r. ⌜ r ≡ rank state ⌝ }
-{
-    match state {
-        State::Connected => 0,
-        State::Ready => 1,
-        State::Streaming => 2,
-        State::TxReady => 3,
-        State::TxStreaming => 4,
-        State::Failed => 5,
-        State::Interrupted => 6,
-        State::Defunct => 7,
-    }
-}
-
 fn is_state(number: u8) -> bool
     ensures { λ r. ⌜ r ≡ isState number ⌝ }
 {
-    state_number(state_of(number)) == number
+    record::rank(state_of(number)) == number
 }
 
 pub fn request_of(image: RequestImage) -> Request
@@ -290,7 +276,7 @@ pub fn image_of(connection: Connection) -> Image
     let slots = queue.slots;
     let requests = slot_images(slots);
     let state = control.state;
-    let number = state_number(state);
+    let number = record::rank(state);
     let streams = control.streams;
     let numbers = streams.numbers;
     Image {

@@ -10,7 +10,7 @@ ghost use Rattle.meulhaton.specs.Wire.{outputOf};
 ghost use Rattle.meulhaton.specs.Values.{plain, lying, headImage, valueAnswer};
 use crate::wire::Output;
 use packing::Packed;
-use values::read::Head;
+use values::head::Head;
 use values::read::Reading;
 
 // What a value is: Null 1, Boolean 2, Integer 3, Float 4, Bytes 5, String 6, List 7, Dictionary 8, Structure 9; then what it holds.

@@ -27,7 +27,7 @@ use Rattle.refusal.specs.Numbers.{numberOf}
 use Rattle.refusal.specs.Answer.{Answer, result, refused, left}
 use Rattle.refusal.specs.declared.Refusal.{Refusal}
 use Rattle.refusal.specs.declared.Refusal.the-variants.{NoRoom}
-use Rattle.markers.specs.Extents.{mostBytes}
+use Rattle.bolt.specs.Limits.{mostBytes}
 use Rattle.packing.specs.Packing.{narrowest, doublings, wide, isTiny, integerWidth, packInteger, sizeWidth, sizeHeader, headerLength, packBoolean, stringHeader, packString, dictionaryHeader, structureHeader, stringForm, dictionaryForm, structureForm, fitted, leaves, telling, told}
 use Rattle.packing.specs.declared.Packed.{Packed}
 use Rattle.packing.specs.declared.Packed.the-variants as P

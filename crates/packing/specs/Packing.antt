@@ -1,7 +1,6 @@
 -- The shortest form of every value, and what the packers answer: document 01, "Values", the table and "the writer never makes one";
 -- "Refusal numbers", "Writers: 22, 6, 10, 21". Assumes nothing.
 use Prim.Native.Nat.{ℕ, _+_}
-use mathlib.Core.Path.{_≡_, refl}
 use mathlib.Core.Bool.{Bool, true, false, cond, _&&_}
 use mathlib.Core.List.{List, [], _∷_, _++_}
 use lib.Dec.{ltb, eqb}
@@ -16,7 +15,7 @@ use Rattle.utf8.specs.Utf8.{utf8}
 use Rattle.refusal.specs.Numbers.{numberOf}
 use Rattle.refusal.specs.Answer.{Answer, result, refused}
 use Rattle.markers.specs.Value.{Value, null, boolean, integer, float, bytes, string, list, dictionary, structure, Items, no-items, item, count, Entries, no-entries, entry, countEntries}
-use Rattle.markers.specs.Extents.{mostBytes}
+use Rattle.bolt.specs.Limits.{mostBytes}
 use Rattle.packing.specs.declared.Packed.{Packed}
 use Rattle.packing.specs.declared.Packed.the-variants as P
 
@@ -150,12 +149,3 @@ telling at (refused number place) = refused number place
 abbrev pub told : Packed → Answer ℕ
 told (P.To end) = result end
 told (P.Refused why) = refused (numberOf why) 0
-
--- ★ 128 is `C9 00 80`, -17 is `C8 EF`
-pub record Starred : Type 0 where
-  pub above : packInteger (pos 128) ≡ 0xC9 ∷ 0x00 ∷ 0x80 ∷ []
-  pub below : packInteger (negsuc 16) ≡ 0xC8 ∷ 0xEF ∷ []
-
-pub starred : Starred
-unfolding packInteger narrowest doublings fitsIn bitsOf bytesOf
-starred = record { above = refl; below = refl }

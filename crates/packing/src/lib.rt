@@ -6,6 +6,7 @@ ghost use lib.ListN.{length};
 ghost use lib.Seq.{sets};
 ghost use Rattle.refusal.specs.Answer.{result, left};
 ghost use Rattle.packing.specs.Packing.{doublings, isTiny, integerWidth, packInteger, sizeWidth, sizeHeader, headerLength, packBoolean, stringForm, dictionaryForm, structureForm, fitted, leaves, telling, told};
+use bolt::MOST_BYTES;
 use refusal::Refusal;
 
 // What a packer answers: the offset past what it packed, or why it packed nothing.
@@ -155,7 +156,7 @@ pub fn pack_string(text: &[u8], out: &mut [u8], at: usize) -> Packed
     ensures filled { λ _. ⌜ now (out .exit) ≡ left (leaves at) (fitted (now (out .entry)) at (stringForm (now (text .entry)))) (now (out .entry)) ⌝ }
 {
     let size = text.len();
-    if 16384 < size {
+    if MOST_BYTES < size {
         return Packed::Refused(Refusal::TooLong);
     }
     if !utf8::is_utf8(text) {
@@ -177,7 +178,7 @@ pub fn pack_dictionary(count: usize, out: &mut [u8], at: usize) -> Packed
     ensures answer { λ r. ⌜ told r ≡ telling at (fitted (now (out .entry)) at (dictionaryForm count)) ⌝ }
     ensures filled { λ _. ⌜ now (out .exit) ≡ left (leaves at) (fitted (now (out .entry)) at (dictionaryForm count)) (now (out .entry)) ⌝ }
 {
-    if 16384 < count {
+    if MOST_BYTES < count {
         return Packed::Refused(Refusal::TooLong);
     }
     let header = header_length(count);

@@ -25,10 +25,10 @@ use Rattle.markers.specs.Extents.{sizeAt}
 use Rattle.values.specs.Decode.{leafValue}
 use Rattle.packing.specs.Packing.{narrowest, doublings, wide, isTiny, packInteger, sizeWidth, headerLength, packBytes, stringHeader, packString, pack}
 use Rattle.packstream.specs.Shortest.{IntegerForm, itself, behind}
-use Rattle.markers.specs.declared.marker.Leaf.{Leaf}
-use Rattle.markers.specs.declared.marker.Leaf.the-variants as L
-use Rattle.markers.specs.declared.marker.Container.{Container}
-use Rattle.markers.specs.declared.marker.Container.the-variants as C
+use Rattle.markers.specs.declared.kind.Leaf.{Leaf}
+use Rattle.markers.specs.declared.kind.Leaf.the-variants as L
+use Rattle.markers.specs.declared.kind.Container.{Container}
+use Rattle.markers.specs.declared.kind.Container.the-variants as C
 use Rattle.markers.specs.declared.marker.Kind.{Kind}
 use Rattle.markers.specs.declared.marker.Kind.the-variants as K
 use Rattle.markers.specs.declared.marker.Marker.{Marker}

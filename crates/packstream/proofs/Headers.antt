@@ -1,48 +1,33 @@
 -- Headers: a marker with the size that it gives. What is read behind one, and that one opens every extent. Assumes nothing.
 use mathlib.Core.Path.{_≡_, refl, sym, ap, _∙_}
-use mathlib.Core.Bool.{Bool, true, false, cond}
+use mathlib.Core.Bool.{Bool, true, false, cond, false≢true}
 use mathlib.Core.List.{List, _∷_}
 use Prim.Native.Nat.{ℕ, zero, suc, _+_, _^_, _≤_, _<_}
 use native.Mathlib.Omega.{arith}
-use lib.Dec.{eqb}
+use lib.Dec.{eqb, ltb}
 use lib.ListN.{length, getD}
-use borrow.Author.Tests.{lt-ltb, ne-eqb}
-use Rattle.slices.specs.Parts.{part}
+use borrow.Author.Tests.{lt-ltb, ne-eqb, ltb-true}
+use Rattle.slices.specs.Parts.{part, reaches}
 use Rattle.slices.proofs.Parts.{reaches-yes}
-use Rattle.numbers.specs.BigEndian.{bigEndian, bytesOf}
+use Rattle.numbers.specs.BigEndian.{bigEndian, bytesOf, Bytes}
 use Rattle.numbers.specs.Access.{isWidth}
 use Rattle.numbers.specs.declared.Unsigned.the-variants as U
 use Rattle.numbers.proofs.BigEndian.{length-bytesOf, read-back}
 use Rattle.numbers.proofs.Access.{unsigned-number, width-least}
-use Rattle.markers.specs.Marker.{sized, markerOf}
+use Rattle.markers.specs.Marker.{sized, markerOf, isString}
 use Rattle.markers.specs.Extents.{sizeAt, onSize, leafExtent, containerExtent, kindExtent, extentAt, keyKindExtent, keyExtentAt}
 use Rattle.values.specs.Decode.{leafAt, containerAt, valueAt}
-use Rattle.markers.specs.declared.marker.Leaf.{Leaf}
-use Rattle.markers.specs.declared.marker.Leaf.the-variants as L
-use Rattle.markers.specs.declared.marker.Container.{Container}
+use Rattle.markers.specs.declared.kind.Leaf.{Leaf}
+use Rattle.markers.specs.declared.kind.Leaf.the-variants as L
+use Rattle.markers.specs.declared.kind.Container.{Container}
 use Rattle.markers.specs.declared.marker.Kind.{Kind}
 use Rattle.markers.specs.declared.marker.Kind.the-variants as K
 use Rattle.markers.specs.declared.marker.Marker.{Marker}
 use Rattle.markers.specs.declared.extent.Extent.{Extent}
 use Rattle.markers.specs.declared.extent.Extent.the-variants as E
-use mathlib.Core.Path.{_≡_, refl, sym, ap, _∙_}
-use mathlib.Core.Bool.{Bool, true, false, false≢true, cond}
-use mathlib.Core.List.{List, _∷_}
-use Prim.Native.Nat.{ℕ, zero, suc, _+_, _^_, _≤_, _<_}
-use borrow.Author.Tests.{lt-ltb, ltb-true, ne-eqb}
-use lib.Dec.{ltb, eqb}
-use lib.ListN.{length, getD}
-use Rattle.slices.specs.Parts.{part, reaches}
-use Rattle.numbers.specs.BigEndian.{bigEndian, bytesOf, Bytes}
-use Rattle.numbers.specs.Access.{isWidth}
 use Rattle.numbers.specs.declared.Unsigned.{Unsigned}
-use Rattle.numbers.proofs.BigEndian.{length-bytesOf}
-use Rattle.numbers.proofs.Access.{width-least}
 use Rattle.refusal.specs.declared.Refusal.{Refusal}
 use Rattle.refusal.specs.declared.Refusal.the-variants.{ValueTruncated}
-use Rattle.markers.specs.Marker.{isString, markerOf}
-use Rattle.markers.specs.Extents.{sizeAt, onSize, leafExtent, containerExtent, kindExtent, extentAt, keyKindExtent, keyExtentAt}
-use Rattle.values.specs.Decode.{leafAt, containerAt, valueAt}
 use Rattle.packstream.proofs.Here.{Here, here-room, here-part, here-inside, here-first, here-behind}
 
 -- a header at `at` of a value of kind k and of size n, whose content starts at p

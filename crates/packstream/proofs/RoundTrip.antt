@@ -24,11 +24,12 @@ use Rattle.refusal.specs.Answer.{result}
 use Rattle.markers.specs.Value.{Value, null, boolean, integer, float, bytes, string, list, dictionary, structure, Items, no-items, item, count, Entries, no-entries, entry, countEntries, relocate, relocateItems, relocateEntries, forget}
 use Rattle.markers.specs.Marker.{itself, fixed, small, sized, lookup, markerOf}
 use Rattle.values.specs.Decode.{parsed, leafValue, leafAt, items, repeats, keyAt, entries, valueAt, valueIn, messageOf, decode}
-use Rattle.markers.specs.Extents.{mostOpen, mostBytes}
+use Rattle.markers.specs.Extents.{mostOpen}
+use Rattle.bolt.specs.Limits.{mostBytes}
 use Rattle.packing.specs.Packing.{doublings, wide, packBoolean, packFloat, isTiny, integerWidth, packInteger, sizeWidth, sizeHeader, packBytes, stringHeader, packString, listHeader, dictionaryHeader, structureHeader, pack, packItems, packEntries}
 use Rattle.packstream.specs.RoundTrip.{validText, packable, packableItems, packableEntries, located, locatedItems, locatedEntries, RoundTrip}
-use Rattle.markers.specs.declared.marker.Leaf.the-variants as L
-use Rattle.markers.specs.declared.marker.Container.the-variants as C
+use Rattle.markers.specs.declared.kind.Leaf.the-variants as L
+use Rattle.markers.specs.declared.kind.Container.the-variants as C
 use Rattle.markers.specs.declared.marker.Kind.{Kind}
 use Rattle.markers.specs.declared.marker.Kind.the-variants as K
 use Rattle.markers.proofs.Markers.{tabulate, agree}

@@ -17,14 +17,15 @@ use Rattle.utf8.specs.Utf8.{utf8}
 use Rattle.refusal.specs.Answer.{result}
 use Rattle.refusal.specs.declared.Refusal.the-variants.{TooDeep}
 use Rattle.markers.specs.Value.{Value, null, boolean, integer, float, bytes, string, list, dictionary, structure, Items, no-items, item, count, Entries, no-entries, entry, countEntries, relocate, relocateItems, relocateEntries, forget}
-use Rattle.markers.specs.Extents.{extentAt, keyExtentAt, mostOpen, mostBytes}
+use Rattle.markers.specs.Extents.{extentAt, keyExtentAt, mostOpen}
+use Rattle.bolt.specs.Limits.{mostBytes}
 use Rattle.values.specs.Decode.{Parse, parsed, failed, andThen, mapped, leafValue, leafAt, isText, items, repeats, KeyText, keyOf, keyAt, entries, containerAt, valueOf, valueAt, whole, valueIn, messageOf, answerOf, decode}
 use Rattle.packing.specs.Packing.{wide, headerLength, packString, listHeader, dictionaryHeader, pack, packItems, packEntries}
 use Rattle.packstream.specs.Shortest.{Shortest, IntegerForm, itself, behind, IntegerForms}
-use Rattle.markers.specs.declared.marker.Leaf.{Leaf}
-use Rattle.markers.specs.declared.marker.Leaf.the-variants as L
-use Rattle.markers.specs.declared.marker.Container.{Container}
-use Rattle.markers.specs.declared.marker.Container.the-variants as C
+use Rattle.markers.specs.declared.kind.Leaf.{Leaf}
+use Rattle.markers.specs.declared.kind.Leaf.the-variants as L
+use Rattle.markers.specs.declared.kind.Container.{Container}
+use Rattle.markers.specs.declared.kind.Container.the-variants as C
 use Rattle.markers.specs.declared.marker.Kind.the-variants as K
 use Rattle.markers.specs.declared.extent.Extent.{Extent}
 use Rattle.markers.specs.declared.extent.Extent.the-variants as E

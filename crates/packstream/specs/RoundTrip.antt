@@ -12,7 +12,8 @@ use Rattle.utf8.specs.Utf8.{utf8}
 use Rattle.refusal.specs.Answer.{result}
 use Rattle.markers.specs.Value.{Value, null, boolean, integer, float, bytes, string, list, dictionary, structure, Items, no-items, item, count, Entries, no-entries, entry, countEntries, forget}
 use Rattle.values.specs.Decode.{parsed, repeats, valueAt, decode}
-use Rattle.markers.specs.Extents.{mostOpen, mostBytes}
+use Rattle.markers.specs.Extents.{mostOpen}
+use Rattle.bolt.specs.Limits.{mostBytes}
 use Rattle.packing.specs.Packing.{sizeWidth, wide, stringHeader, packString, listHeader, dictionaryHeader, structureHeader, pack}
 
 -- ---- values that have a form

@@ -35,3 +35,8 @@ hasPlace number = leb 7 number && leb number 16
 abbrev pub Placed : {A : Type 0} → Answer A → Type 0
 Placed (result a) = Unit {0}
 Placed (refused number place) = hasPlace number ≡ false → place ≡ 0
+
+-- one check, then the next: the first refusal decides
+abbrev pub andThen : {A B : Type 0} → Answer A → (A → Answer B) → Answer B
+andThen (result a) f = f a
+andThen (refused number place) f = refused number place

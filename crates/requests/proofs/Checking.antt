@@ -1,17 +1,15 @@
 -- Laws of the checks: a view of any other kind is wrong, and numbers are in their ranges by their signs. Assumes nothing.
-use mathlib.Core.Path.{_≡_, refl, sym, ap, _∙_}
-use mathlib.Core.Bool.{Bool, true, false, true≢false, false≢true}
+use mathlib.Core.Path.{_≡_, refl, ap, _∙_}
+use mathlib.Core.Bool.{Bool, true, false}
 use mathlib.Core.List.{List, [], _∷_}
-use Prim.Native.Nat.{ℕ, zero, suc}
-use native.Mathlib.Omega.{arith}
-use lib.Dec.{leb, eqb, leb·zero}
+use Prim.Native.Nat.{ℕ}
+use lib.Dec.{leb·zero}
 use lib.IntN.{ℤ, pos, negsuc}
 use lib.Signed.{leZ}
-use borrow.Author.Tests.{lt-leb, ne-eqb}
 use denote.Enum.Declared.{tagOf}
 use types.Run.{OneOf, miss}
 use Rattle.refusal.specs.Answer.{result}
-use Rattle.requests.specs.Checks.{wrong, stringAt, dictionaryAt, listOfStringsAt, modeAt, integerAt, nonNegative, minusOneOr}
+use Rattle.requests.specs.Checks.{wrong, stringAt, dictionaryAt, listOfStringsAt, modeAt, integerAt, nonNegative}
 use Rattle.requests.specs.declared.request.Number.the-variants as N
 use Rattle.requests.specs.declared.view.View.{View}
 use Rattle.requests.specs.declared.view.View.the-variants as As
@@ -72,23 +70,6 @@ module _ (range : ℤ → Bool) (place : ℕ) (v : View) (z w : ℤ) (b : Bool) 
 
 -- ---- ranges: of the number z, and of w, z as the machine holds it
 
--- -1 is the greatest of the negative numbers
-only-zero : (m : ℕ) → leb m 0 ≡ eqb m 0
-only-zero zero = refl
-only-zero (suc m) = lt-leb (suc m) 0 (omega arith) ∙ sym (ne-eqb (suc m) 0 (λ q. omega arith))
-
 pub timeout-is : (z w : ℤ) → w ≡ z → leZ (pos 0) w ≡ nonNegative z
 timeout-is (pos m) w e = ap (leZ (pos 0)) e ∙ leb·zero m
 timeout-is (negsuc m) w e = ap (leZ (pos 0)) e
-
-pub stream-is : (z w : ℤ) → w ≡ z → leZ (negsuc 0) w ≡ minusOneOr 0 z
-stream-is (pos m) w e = ap (leZ (negsuc 0)) e ∙ sym (leb·zero m)
-stream-is (negsuc m) w e = ap (leZ (negsuc 0)) e ∙ only-zero m
-
-pub records-high : (z w : ℤ) → w ≡ z → leZ (pos 0) w ≡ true → leZ (pos 1) w ≡ minusOneOr 1 z
-records-high (pos m) w e h = ap (leZ (pos 1)) e
-records-high (negsuc m) w e h = absurd (false≢true (ap (leZ (pos 0)) (sym e) ∙ h))
-
-pub records-low : (z w : ℤ) → w ≡ z → leZ (pos 0) w ≡ false → leZ (negsuc 0) w ≡ minusOneOr 1 z
-records-low (pos m) w e h = absurd (true≢false (sym (leb·zero m) ∙ ap (leZ (pos 0)) (sym e) ∙ h))
-records-low (negsuc m) w e h = ap (leZ (negsuc 0)) e ∙ only-zero m

@@ -5,9 +5,9 @@ use mathlib.Core.List.{List}
 use Prim.Native.Nat.{ℕ, _<_}
 use lib.ListN.{getD}
 use Rattle.refusal.specs.Answer.{Answer}
-use Rattle.requests.specs.Names.{nameOf}
+use Rattle.requests.specs.Private.Names.{nameOf}
 use Rattle.requests.specs.View.{absent}
-use Rattle.requests.specs.Walk.{entryAt, entryIn}
+use Rattle.requests.specs.Private.Walk.{entryAt, entryIn}
 use Rattle.requests.specs.declared.view.Entry.{Entry}
 use Rattle.requests.proofs.Naming.{index-of-name}
 

@@ -7,24 +7,24 @@ use native.Mathlib.Omega.{arith}
 use lib.Dec.{eqb}
 use lib.ListN.{length}
 use borrow.Author.Tests.{eq-eqb, ne-eqb}
-use Rattle.refusal.specs.Answer.{Answer, result, refused}
+use Rattle.refusal.specs.Answer.{Answer, result, refused, andThen}
 use Rattle.markers.specs.Value.{Value, null, boolean, integer, float, bytes, string, list, dictionary, structure, Items, no-items, item, count, Entries, countEntries, firstEntry}
 use Rattle.values.specs.Decode.{Parse, parsed, valueAt, leafValue, entries}
 use Rattle.markers.specs.Extents.{mostOpen}
 use Rattle.values.specs.Reading.{headOf}
 use Rattle.values.specs.Walk.{peekAt, skipAt}
-use Rattle.values.specs.Placement.{Reads, ItemsLie, PartsLie}
-use Rattle.markers.specs.declared.marker.Leaf.{Leaf}
-use Rattle.markers.specs.declared.marker.Leaf.the-variants as L
+use Rattle.values.specs.Private.Placement.{Reads, ItemsLie, PartsLie}
+use Rattle.markers.specs.declared.kind.Leaf.{Leaf}
+use Rattle.markers.specs.declared.kind.Leaf.the-variants as L
 use Rattle.values.specs.declared.walk.Skipped.the-variants as S
 use Rattle.values.proofs.Placement.{placement}
 use Rattle.values.proofs.Steps as Steps
 use Rattle.values.proofs.Steps.{ValueTells, value-tells, entries-count}
-use Rattle.requests.specs.Names.{nameOf}
+use Rattle.requests.specs.Private.Names.{nameOf}
 use Rattle.requests.specs.View.{span, seen, under}
-use Rattle.requests.specs.Checks.{andThen, wrong, stringIn, requiredText}
+use Rattle.requests.specs.Checks.{wrong, stringIn, requiredText}
 use Rattle.requests.specs.Requests.{Lookup, hello, transaction, batch, asks, entriesOf, extra, run, none, one, three}
-use Rattle.requests.specs.Walk.{stringFound, onText, entriesHead, entriesFound, notedFrom, nothing, entryIn, Fields}
+use Rattle.requests.specs.Private.Walk.{stringFound, onText, entriesHead, entriesFound, notedFrom, nothing, entryIn, Fields}
 use Rattle.requests.specs.declared.request.Span.{Span}
 use Rattle.requests.specs.declared.request.Text.{Text}
 use Rattle.requests.specs.declared.request.Text.the-variants as T

@@ -10,18 +10,17 @@ use lib.Seq.{getD-set-same, getD-set-other}
 use borrow.Author.Tests.{eqb-true, ne-eqb}
 use Rattle.slices.specs.Parts.{part}
 use Rattle.markers.specs.Value.{Value, Entries, no-entries, entry, countEntries}
-use Rattle.values.specs.Decode.{Parse, parsed, same, repeats, KeyText, keyAt, entries, valueAt}
+use Rattle.values.specs.Decode.{Parse, parsed, repeats, KeyText, keyAt, entries, valueAt}
+use Rattle.slices.specs.Equality.{same}
 use Rattle.markers.specs.Extents.{mostOpen}
-use Rattle.values.specs.Placement.{EntriesLie}
+use Rattle.values.specs.Private.Placement.{EntriesLie}
 use Rattle.values.proofs.KeySearch as Keys
 use Rattle.values.proofs.KeySearch.{KeyTells, key-tells}
 use Rattle.values.proofs.Steps.{FirstEntry, first-entry, entries-count}
 use Rattle.values.proofs.Placement.{placement, entries-lie}
-use Rattle.requests.specs.Names.{names, nameOf, indexOf}
+use Rattle.requests.specs.Private.Names.{names, nameOf, indexOf}
 use Rattle.requests.specs.View.{span, seen, under}
-use Rattle.requests.specs.Walk.{stringFound, note, notedFrom, nothing, entryAt, entryIn}
-use Rattle.requests.specs.declared.request.Text.{Text}
-use Rattle.requests.specs.declared.request.Text.the-variants as T
+use Rattle.requests.specs.Private.Walk.{stringFound, note, notedFrom, nothing, entryAt, entryIn}
 use Rattle.requests.specs.declared.view.View.{View}
 use Rattle.requests.proofs.Naming.{index-of-name, name-of-index}
 use Rattle.requests.proofs.Peeking.{string-within}

@@ -13,10 +13,10 @@ use borrow.Author.Tests.{eq-eqb, ne-eqb, eqb-true, eqb-false, leb-true}
 use Rattle.slices.specs.Parts.{part}
 use Rattle.slices.proofs.Below.{below}
 use Rattle.slices.proofs.Parts.{part-cons}
-use Rattle.values.specs.Decode.{same}
+use Rattle.slices.specs.Equality.{same}
 use Rattle.markers.proofs.Markers.{tabulate, agree}
 use Rattle.values.proofs.KeySearch.{same-length}
-use Rattle.requests.specs.Names.{names, nameOf, indexOf}
+use Rattle.requests.specs.Private.Names.{names, nameOf, indexOf}
 
 -- ---- parts of two lists
 left-cons : (s : List ℕ) (p n i : ℕ) → i < n → p + n ≤ length s → part s (p + i) (n - i) ≡ getD s (p + i) 0 ∷ part s (p + (i + 1)) (n - (i + 1))

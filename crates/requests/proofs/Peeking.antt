@@ -11,16 +11,16 @@ use Rattle.markers.specs.Extents.{extentAt, mostOpen}
 use Rattle.markers.specs.Marker.{isString}
 use Rattle.values.specs.Reading.{headOf}
 use Rattle.values.specs.Walk.{peekOf, peekAt}
-use Rattle.markers.specs.declared.marker.Leaf.{Leaf}
-use Rattle.markers.specs.declared.marker.Leaf.the-variants as L
-use Rattle.markers.specs.declared.marker.Container.the-variants as C
+use Rattle.markers.specs.declared.kind.Leaf.{Leaf}
+use Rattle.markers.specs.declared.kind.Leaf.the-variants as L
+use Rattle.markers.specs.declared.kind.Container.the-variants as C
 use Rattle.markers.specs.declared.extent.Extent.{Extent}
 use Rattle.markers.specs.declared.extent.Extent.the-variants as E
-use Rattle.values.specs.declared.read.Head.the-variants as H
+use Rattle.values.specs.declared.head.Head.the-variants as H
 use Rattle.values.specs.declared.walk.Peeked.the-variants as Pk
 use Rattle.markers.proofs.Extents.{Inside, extent-inside}
 use Rattle.requests.specs.View.{span}
-use Rattle.requests.specs.Walk.{stringFound}
+use Rattle.requests.specs.Private.Walk.{stringFound}
 use Rattle.requests.specs.declared.request.Span.{Span}
 use Rattle.requests.specs.declared.request.Text.{Text}
 use Rattle.requests.specs.declared.request.Text.the-variants as T

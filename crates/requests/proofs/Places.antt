@@ -4,14 +4,14 @@ use mathlib.Core.List.{List}
 use Prim.Native.Nat.{ℕ}
 use lib.Dec.{eqb, leb}
 use lib.IntN.{ℤ}
-use Rattle.refusal.specs.Answer.{Answer, result, refused, Placed}
+use Rattle.refusal.specs.Answer.{Answer, result, refused, Placed, andThen}
 use Rattle.refusal.proofs.Answer.{placed-cond, anywhere}
 use Rattle.markers.specs.Value.{Value, null, boolean, integer, float, bytes, string, list, dictionary, structure, Items, no-items, item, Entries}
 use Rattle.values.specs.Decode.{decode}
 use Rattle.values.proofs.Places.{message-placed}
 use Rattle.requests.specs.Names as Name
 use Rattle.requests.specs.View.{seen, absent, under}
-use Rattle.requests.specs.Checks.{andThen, wrong, stringAt, stringIn, dictionaryAt, dictionaryIn, unlessItem, listOfStringsAt, listOfStringsIn, unlessNone, modeAt, modeIn, integerAt, integerIn, inRange, requiredText, requiredNumber}
+use Rattle.requests.specs.Checks.{wrong, stringAt, stringIn, dictionaryAt, dictionaryIn, unlessItem, listOfStringsAt, listOfStringsIn, unlessNone, modeAt, modeIn, integerAt, integerIn, inRange, requiredText, requiredNumber}
 use Rattle.requests.specs.Requests.{Lookup, hello, transaction, batch, asks, entriesOf, extra, run, none, one, three, tagged, requestIn, requestOf}
 use Rattle.requests.specs.declared.request.Text.{Text}
 use Rattle.requests.specs.declared.request.Text.the-variants as T

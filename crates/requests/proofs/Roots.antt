@@ -10,13 +10,13 @@ use Rattle.markers.specs.Value.{Value, null, boolean, integer, float, bytes, st
 use Rattle.values.specs.Decode.{decode}
 use Rattle.markers.specs.Extents.{mostOpen}
 use Rattle.values.specs.Reading.{headOf, Found, tellMessage}
-use Rattle.values.specs.Placement.{PartsLie}
-use Rattle.values.specs.declared.read.Head.{Head}
-use Rattle.values.specs.declared.read.Head.the-variants as H
+use Rattle.values.specs.Private.Placement.{PartsLie}
+use Rattle.values.specs.declared.head.Head.{Head}
+use Rattle.values.specs.declared.head.Head.the-variants as H
 use Rattle.values.proofs.Answers.{told-value, told-refusal, decode-reads}
 use Rattle.values.proofs.Placement.{placement}
 use Rattle.requests.specs.Requests.{tagged, requestIn, requestOf, told}
-use Rattle.requests.specs.Walk.{Answers}
+use Rattle.requests.specs.Private.Walk.{Answers}
 use Rattle.requests.specs.declared.request.Reading.{Reading}
 use Rattle.requests.proofs.Viewing.{Kinds}
 

@@ -5,22 +5,19 @@ use mathlib.Core.List.{List}
 use Prim.Native.Nat.{ℕ, _+_, _-_, _≤_}
 use native.Mathlib.Omega.{arith}
 use lib.ListN.{length}
-use Rattle.markers.specs.Value.{Value, null, boolean, integer, float, bytes, string, list, dictionary, structure, Items, no-items, item, count, first, Entries}
+use Rattle.markers.specs.Value.{Value, null, boolean, integer, float, bytes, string, list, dictionary, structure, Items, no-items, item, count, first}
 use Rattle.markers.specs.Extents.{mostOpen}
 use Rattle.values.specs.Reading.{headOf}
 use Rattle.values.specs.Walk.{peekAt}
-use Rattle.values.specs.Placement.{Reads, ItemsLie, PartsLie}
-use Rattle.values.specs.declared.walk.Peeked.{Peeked}
-use Rattle.values.specs.declared.walk.Peeked.the-variants as Pk
+use Rattle.values.specs.Private.Placement.{Reads, ItemsLie, PartsLie}
 use Rattle.values.proofs.Placement.{placement}
 use Rattle.requests.specs.View.{span, isString, wrongIn, modeNamed, viewOf}
-use Rattle.requests.specs.Walk.{stringHead, stringFound, onText, wrongFrom, viewHead, viewFound}
+use Rattle.requests.specs.Private.Walk.{stringHead, stringFound, onText, wrongFrom, viewHead, viewFound}
 use Rattle.requests.specs.declared.request.Text.{Text}
 use Rattle.requests.specs.declared.request.Text.the-variants as T
 use Rattle.requests.specs.declared.request.Place.{Place}
 use Rattle.requests.specs.declared.request.Place.the-variants as P
 use Rattle.requests.specs.declared.view.View.the-variants as As
-use Rattle.requests.specs.declared.entries.Entries.the-variants as E
 
 -- the content of a String
 abbrev pub textOf : Value → Text

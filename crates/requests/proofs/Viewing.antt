@@ -10,15 +10,15 @@ use denote.Enum.Declared.{tagOf}
 use types.Run.{OneOf, miss}
 use Rattle.slices.specs.Parts.{part}
 use Rattle.slices.proofs.Parts.{length-part, part-cons}
-use Rattle.values.specs.Decode.{same}
+use Rattle.slices.specs.Equality.{same}
 use Rattle.values.specs.Walk.{peekAt}
-use Rattle.values.specs.declared.read.Head.{Head}
-use Rattle.values.specs.declared.read.Head.the-variants as H
+use Rattle.values.specs.declared.head.Head.{Head}
+use Rattle.values.specs.declared.head.Head.the-variants as H
 use Rattle.values.specs.declared.walk.Peeked.the-variants as Pk
-use Rattle.values.proofs.read.Head as Head′
+use Rattle.values.proofs.head.Head as Head′
 use Rattle.values.proofs.KeySearch.{same-length}
 use Rattle.requests.specs.View.{modeNamed}
-use Rattle.requests.specs.Walk.{entriesHead, viewHead, viewAt}
+use Rattle.requests.specs.Private.Walk.{entriesHead, viewHead, viewAt}
 use Rattle.requests.specs.declared.request.Mode.the-variants as M
 use Rattle.requests.specs.declared.view.View.{View}
 use Rattle.requests.specs.declared.view.View.the-variants as As

@@ -8,8 +8,8 @@ use Rattle.slices.specs.Parts.{part}
 use Rattle.values.specs.Walk.{peekAt, skipAt}
 use Rattle.values.specs.declared.walk.Skipped.{Skipped}
 use Rattle.values.specs.declared.walk.Skipped.the-variants as S
-use Rattle.requests.specs.Names.{names, indexOf}
-use Rattle.requests.specs.Walk.{stringFound, wrongFrom, nothing, notedFrom}
+use Rattle.requests.specs.Private.Names.{names, indexOf}
+use Rattle.requests.specs.Private.Walk.{stringFound, wrongFrom, nothing, notedFrom}
 use Rattle.requests.specs.declared.request.Span.{Span}
 use Rattle.requests.specs.declared.request.Text.the-variants as T
 use Rattle.requests.specs.declared.request.Place.the-variants as P

@@ -10,7 +10,8 @@ use Rattle.numbers.specs.Access.{unsignedAt}
 use Rattle.utf8.specs.Utf8.{utf8, sequencesFrom, sequence, completes}
 use Rattle.refusal.specs.Answer.{Answer, result, refused}
 use Rattle.markers.specs.Marker.{markerOf, lookup}
-use Rattle.values.specs.Decode.{decode, messageOf, valueIn, valueAt, items, entries, keyAt, leafAt, leafValue, same, repeats}
+use Rattle.values.specs.Decode.{decode, messageOf, valueIn, valueAt, items, entries, keyAt, leafAt, leafValue, repeats}
+use Rattle.slices.specs.Equality.{same}
 use Rattle.markers.specs.Extents.{keyExtentAt, extentAt, leafExtent, containerExtent}
 use Rattle.requests.specs.View.{span, wrongIn, under}
 use Rattle.requests.specs.Requests.{requestOf, hello, transaction, batch, run, tagged}

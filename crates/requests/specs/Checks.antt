@@ -2,11 +2,9 @@
 -- Assumes nothing.
 use Prim.Native.Nat.{ℕ}
 use mathlib.Core.Bool.{Bool, true, false, cond}
-use lib.Dec.{leb, eqb}
 use lib.IntN.{ℤ, pos, negsuc}
 use Rattle.refusal.specs.Answer.{Answer, result, refused}
 use Rattle.refusal.specs.Numbers.{numberOf}
-use Rattle.refusal.specs.declared.Refusal.the-variants.{InvalidField}
 use Rattle.requests.specs.declared.request.Span.{Span}
 use Rattle.requests.specs.declared.request.Fault.{Fault}
 use Rattle.requests.specs.declared.request.Text.{Text}
@@ -22,19 +20,7 @@ use Rattle.requests.specs.declared.view.View.the-variants as As
 use Rattle.requests.specs.declared.view.Entry.{Entry}
 use Rattle.requests.specs.declared.checks.Range.{Range}
 use Rattle.requests.specs.declared.checks.Range.the-variants.{Timeout, Records, Stream}
-use Rattle.requests.specs.declared.checks.CheckedText.{CheckedText}
-use Rattle.requests.specs.declared.checks.CheckedText.the-variants as CT
-use Rattle.requests.specs.declared.checks.CheckedPlace.{CheckedPlace}
-use Rattle.requests.specs.declared.checks.CheckedPlace.the-variants as CP
-use Rattle.requests.specs.declared.checks.CheckedNumber.{CheckedNumber}
-use Rattle.requests.specs.declared.checks.CheckedNumber.the-variants as CN
-use Rattle.requests.specs.declared.checks.CheckedMode.{CheckedMode}
-use Rattle.requests.specs.declared.checks.CheckedMode.the-variants as CM
-
--- one check, then the next: the first refusal decides
-abbrev pub andThen : {A B : Type 0} → Answer A → (A → Answer B) → Answer B
-andThen (result a) f = f a
-andThen (refused number place) f = refused number place
+use Rattle.bolt.specs.Ranges.{minusOneOr}
 
 abbrev pub wrong : {A : Type 0} → ℕ → Answer A
 wrong place = refused 16 place
@@ -113,11 +99,6 @@ abbrev pub nonNegative : ℤ → Bool
 nonNegative (pos m) = true
 nonNegative (negsuc m) = false
 
--- "-1 or at least" so much
-abbrev pub minusOneOr : ℕ → ℤ → Bool
-minusOneOr least (pos m) = leb least m
-minusOneOr least (negsuc m) = eqb m 0
-
 -- the range of tx_timeout, of n and of qid
 abbrev pub inRange : Range → ℤ → Bool
 inRange Timeout z = nonNegative z
@@ -141,22 +122,3 @@ orMinusOne (N.Is z) = z
 -- ---- the code's answers in the paper's terms
 abbrev pub refusedBy : {A : Type 0} → Fault → Answer A
 refusedBy f = refused (numberOf (f .refusal)) (f .place)
-
-abbrev pub faultOf : ℕ → Fault
-faultOf place = record { refusal = InvalidField; place = place }
-
-abbrev pub toldText : CheckedText → Answer Text
-toldText (CT.Right text) = result text
-toldText (CT.Wrong fault) = refusedBy fault
-
-abbrev pub toldPlace : CheckedPlace → Answer Place
-toldPlace (CP.Right place) = result place
-toldPlace (CP.Wrong fault) = refusedBy fault
-
-abbrev pub toldNumber : CheckedNumber → Answer Number
-toldNumber (CN.Right number) = result number
-toldNumber (CN.Wrong fault) = refusedBy fault
-
-abbrev pub toldMode : CheckedMode → Answer Mode
-toldMode (CM.Right mode) = result mode
-toldMode (CM.Wrong fault) = refusedBy fault

@@ -2,5 +2,5 @@ pub mod Names
 pub mod View
 pub mod Checks
 pub mod Requests
-pub mod Walk
+pub mod Private
 pub mod Cases

@@ -1,9 +1,6 @@
 -- The names of the known entries: document 01, "Requests". Assumes nothing.
-use Prim.Native.Nat.{ℕ, zero, suc}
-use mathlib.Core.Bool.{cond}
+use Prim.Native.Nat.{ℕ}
 use mathlib.Core.List.{List, [], _∷_}
-use lib.ListN.{getD}
-use Rattle.values.specs.Decode.{same}
 
 -- HELLO
 abbrev pub user-agent : List ℕ
@@ -45,15 +42,3 @@ abbrev pub qid : List ℕ
 qid = 0x71 ∷ 0x69 ∷ 0x64 ∷ []
 
 -- ---- the code's table
-
--- all of them, request by request in checking order
-abbrev pub names : List (List ℕ)
-names = user-agent ∷ scheme ∷ principal ∷ credentials ∷ routing ∷ bookmarks ∷ tx-timeout ∷ tx-metadata ∷ mode ∷ db ∷ n ∷ qid ∷ []
-
-abbrev pub nameOf : ℕ → List ℕ
-nameOf k = getD names k []
-
--- which of the names a key is; as many as there are where it is none
-unfoldable pub indexOf : List ℕ → List (List ℕ) → ℕ
-indexOf key [] = zero
-indexOf key (k ∷ ks) = cond (same key k) zero (suc (indexOf key ks))

@@ -3,11 +3,11 @@ use Prim.Native.Nat.{ℕ}
 use mathlib.Core.Bool.{cond}
 use mathlib.Core.List.{List}
 use lib.Dec.{leb, eqb}
-use Rattle.refusal.specs.Answer.{Answer, result, refused}
+use Rattle.refusal.specs.Answer.{Answer, result, refused, andThen}
 use Rattle.markers.specs.Value.{Value, null, boolean, integer, float, bytes, string, list, dictionary, structure, Items, no-items, item, Entries}
 use Rattle.requests.specs.Names as Name
 use Rattle.requests.specs.View.{seen, absent, under}
-use Rattle.requests.specs.Checks.{andThen, wrong, stringIn, dictionaryIn, listOfStringsIn, modeIn, integerIn, inRange, requiredText, requiredNumber, orMinusOne, refusedBy}
+use Rattle.requests.specs.Checks.{wrong, stringIn, dictionaryIn, listOfStringsIn, modeIn, integerIn, inRange, requiredText, requiredNumber, orMinusOne, refusedBy}
 use Rattle.requests.specs.declared.request.Transaction.{Transaction}
 use Rattle.requests.specs.declared.request.Batch.{Batch}
 use Rattle.requests.specs.declared.request.Request.{Request}
@@ -17,11 +17,8 @@ use Rattle.requests.specs.declared.request.Reading.the-variants as Read
 use Rattle.requests.specs.declared.view.Entry.{Entry}
 use Rattle.requests.specs.declared.extra.Kind.{Kind}
 use Rattle.requests.specs.declared.extra.Kind.the-variants as K
-use Rattle.requests.specs.declared.extra.CheckedTransaction.{CheckedTransaction}
-use Rattle.requests.specs.declared.extra.CheckedTransaction.the-variants as CT
-use Rattle.requests.specs.declared.extra.CheckedBatch.{CheckedBatch}
-use Rattle.requests.specs.declared.extra.CheckedBatch.the-variants as CB
 use Rattle.requests.specs.declared.checks.Range.the-variants.{Timeout, Records, Stream}
+use Rattle.bolt.specs.Requests.{tag, HELLO, GOODBYE, RESET, RUN, BEGIN, COMMIT, ROLLBACK, DISCARD, PULL}
 
 -- ---- the extra of each request: what it asks of the entry under each name, in checking order; `at` is the Dictionary's marker
 abbrev pub Lookup : Type 0
@@ -118,21 +115,21 @@ three f (item at v vs) = two (f at v) vs
 
 -- by the tag; any other is 14
 unfoldable pub tagged : ℕ → ℕ → Items → Answer Request
-tagged minor tag fields =
-    cond (eqb tag 0x01) (one (extra (asks K.Hello minor)) fields)
-    (cond (eqb tag 0x02) (none (result R.Goodbye) fields)
-    (cond (eqb tag 0x0F) (none (result R.Reset) fields)
-    (cond (eqb tag 0x10) (three run fields)
-    (cond (eqb tag 0x11) (one (extra (asks K.Begin minor)) fields)
-    (cond (eqb tag 0x12) (none (result R.Commit) fields)
-    (cond (eqb tag 0x13) (none (result R.Rollback) fields)
-    (cond (eqb tag 0x2F) (one (extra (asks K.Discard minor)) fields)
-    (cond (eqb tag 0x3F) (one (extra (asks K.Pull minor)) fields)
+tagged minor given fields =
+    cond (eqb given (tag HELLO)) (one (extra (asks K.Hello minor)) fields)
+    (cond (eqb given (tag GOODBYE)) (none (result R.Goodbye) fields)
+    (cond (eqb given (tag RESET)) (none (result R.Reset) fields)
+    (cond (eqb given (tag RUN)) (three run fields)
+    (cond (eqb given (tag BEGIN)) (one (extra (asks K.Begin minor)) fields)
+    (cond (eqb given (tag COMMIT)) (none (result R.Commit) fields)
+    (cond (eqb given (tag ROLLBACK)) (none (result R.Rollback) fields)
+    (cond (eqb given (tag DISCARD)) (one (extra (asks K.Discard minor)) fields)
+    (cond (eqb given (tag PULL)) (one (extra (asks K.Pull minor)) fields)
     (refused 14 0)))))))))
 
 -- "14: not a known request structure"
 abbrev pub requestIn : ℕ → Value → Answer Request
-requestIn minor (structure tag fields) = tagged minor tag fields
+requestIn minor (structure given fields) = tagged minor given fields
 requestIn minor null = refused 14 0
 requestIn minor (boolean b) = refused 14 0
 requestIn minor (integer z) = refused 14 0
@@ -150,11 +147,3 @@ requestOf minor decoded = andThen decoded (requestIn minor)
 abbrev pub told : Reading → Answer Request
 told (Read.Request request) = result request
 told (Read.Refused fault) = refusedBy fault
-
-abbrev pub toldTransaction : CheckedTransaction → Answer Transaction
-toldTransaction (CT.Right t) = result t
-toldTransaction (CT.Wrong fault) = refusedBy fault
-
-abbrev pub toldBatch : CheckedBatch → Answer Batch
-toldBatch (CB.Right b) = result b
-toldBatch (CB.Wrong fault) = refusedBy fault

@@ -1,7 +1,8 @@
 // What an entry may hold: document 01, "Requests". A wrong one is refused at its marker.
 ghost use mathlib.Core.Path.{_≡_};
 ghost use Rattle.refusal.specs.Answer.{refused};
-ghost use Rattle.requests.specs.Checks.{inRange, stringIn, dictionaryIn, integerIn, modeIn, listOfStringsIn, toldText, toldPlace, toldNumber, toldMode, faultOf};
+ghost use Rattle.requests.specs.Checks.{inRange, stringIn, dictionaryIn, integerIn, modeIn, listOfStringsIn};
+ghost use Rattle.requests.specs.Private.Checks.{toldText, toldPlace, toldNumber, toldMode, faultOf};
 use crate::request::Fault;
 use crate::request::Mode;
 use crate::request::Number;
@@ -113,13 +114,8 @@ fn is_in_range(range: Range, number: i64) -> bool
 {
     match range {
         Range::Timeout => 0 <= number,
-        Range::Records => {
-            if 0 <= number {
-                return 1 <= number;
-            }
-            -1 <= number
-        }
-        Range::Stream => -1 <= number,
+        Range::Records => bolt::is_count(number),
+        Range::Stream => bolt::is_qid(number),
     }
 }
 

@@ -1,11 +1,11 @@
 // The entries of a Dictionary.
 ghost use mathlib.Core.Path.{_≡_};
 ghost use Rattle.values.specs.Walk.{peekAt};
-ghost use Rattle.requests.specs.Walk.{entriesFound, notedFrom, nothing};
+ghost use Rattle.requests.specs.Private.Walk.{entriesFound, notedFrom, nothing};
 use crate::names;
 use crate::request::Text;
 use crate::view;
-use values::read::Head;
+use values::head::Head;
 use values::walk;
 use values::walk::Peeked;
 use values::walk::Skipped;

@@ -3,8 +3,8 @@ ghost use mathlib.Core.Path.{_≡_};
 ghost use Prim.Native.Nat.{_+_, _≤_, _<_};
 ghost use lib.ListN.{length};
 ghost use Rattle.slices.specs.Parts.{part};
-ghost use Rattle.values.specs.Decode.{same};
-ghost use Rattle.requests.specs.Names.{names, nameOf, indexOf};
+ghost use Rattle.slices.specs.Equality.{same};
+ghost use Rattle.requests.specs.Private.Names.{names, nameOf, indexOf};
 
 pub const USER_AGENT: usize = 0;
 

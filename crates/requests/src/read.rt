@@ -6,7 +6,7 @@ ghost use lib.Dec.{eqb};
 ghost use Rattle.refusal.specs.Answer.{result, refused};
 ghost use Rattle.values.specs.Decode.{decode};
 ghost use Rattle.requests.specs.Requests.{asks, extra, run as runIn, one, three, tagged, requestOf, told};
-ghost use Rattle.requests.specs.Walk.{Answers};
+ghost use Rattle.requests.specs.Private.Walk.{Answers};
 use crate::checks;
 use crate::entries;
 use crate::entries::Entries;
@@ -20,7 +20,7 @@ use crate::request::Text;
 use crate::view;
 use handshake::version::Version;
 use refusal::Refusal;
-use values::read::Head;
+use values::head::Head;
 use values::walk;
 use values::walk::Skipped;
 

@@ -16,7 +16,8 @@ use Rattle.connection.specs.declared.record.Connection.{Connection}
 use Rattle.connection.specs.declared.answers.Outcome.the-variants.{Success}
 use Rattle.connection.specs.declared.turn.Turn.{Turn}
 use Rattle.connection.specs.declared.turn.Turn.the-variants as U
-use Rattle.connection.specs.Requests.{RESET, kindOf, inState, is, inRange}
+use Rattle.connection.specs.Requests.{kindOf, inState, is, inRange}
+use Rattle.bolt.specs.Requests.{RESET}
 use Rattle.connection.specs.Appendix.{newState}
 use Rattle.connection.specs.Table as T
 use Rattle.connection.specs.Table.{Table, Said, Done, takeT, takeFirst, taken, turnOf as turnIn, arriveT, accept, reportT, reportFirst, reported, streamsAfter, response}

@@ -11,7 +11,8 @@ use Rattle.numbers.specs.BigEndian.{bigEndian}
 use Rattle.hex.specs.Hex.{isLine, allDigits, isDigit, toBytes, valueOf}
 use Rattle.handshake.specs.declared.version.Version.{Version}
 use Rattle.handshake.specs.Version.{keepsAlive}
-use Rattle.framing.specs.Feed.{keep-alive, most, feed}
+use Rattle.framing.specs.Feed.{keep-alive, feed}
+use Rattle.bolt.specs.Limits.{mostBytes}
 use Rattle.framing.specs.Reading.{frameOf}
 use Rattle.session.specs.declared.phase.Phase.{Phase}
 use Rattle.session.specs.declared.phase.Phase.the-variants.{Open}
@@ -22,15 +23,15 @@ use Rattle.session.specs.KeepAlive.{KeepAlive, unmoved, empty}
 
 module _ (s : Session) (v : Version) (begun : s .phase ≡ Open v) where
   -- a line that brings nothing
-  quiet : (line : List ℕ) → broughtIn most (v .minor) line ≡ nothing → nextOf s line ≡ unmoved s
+  quiet : (line : List ℕ) → broughtIn mostBytes (v .minor) line ≡ nothing → nextOf s line ≡ unmoved s
   unfolding nextOf replying
   quiet line e =
       ap (λ (p : Phase). inPhase p (s .connection) line) begun
       ∙ ap (λ (b : Brought). replying (Open v) [] (answering (s .connection) b)) e
       ∙ ap (λ (p : Phase). record { lines = []; goesOn = true; session = record { phase = p; connection = s .connection } }) (sym begun)
 
-  alone : (line : List ℕ) → isLine line ≡ true → frameOf (keepsAlive (v .minor)) most (toBytes line) ≡ result (keep-alive (length (toBytes line)))
-      → broughtIn most (v .minor) line ≡ nothing
+  alone : (line : List ℕ) → isLine line ≡ true → frameOf (keepsAlive (v .minor)) mostBytes (toBytes line) ≡ result (keep-alive (length (toBytes line)))
+      → broughtIn mostBytes (v .minor) line ≡ nothing
   unfolding broughtIn
   alone line l f =
       let n = length (toBytes line) in
@@ -40,9 +41,9 @@ empty-line : isLine empty ≡ true
 unfolding isLine allDigits isDigit
 empty-line = refl
 
-empty-frame : (alive : Bool) → alive ≡ true → frameOf alive most (toBytes empty) ≡ result (keep-alive (length (toBytes empty)))
+empty-frame : (alive : Bool) → alive ≡ true → frameOf alive mostBytes (toBytes empty) ≡ result (keep-alive (length (toBytes empty)))
 unfolding toBytes valueOf frameOf feed bigEndian
-empty-frame alive e = ap (λ (b : Bool). frameOf b most (toBytes empty)) e
+empty-frame alive e = ap (λ (b : Bool). frameOf b mostBytes (toBytes empty)) e
 
 pub keep-alives : (s : Session) (v : Version) → KeepAlive s v
 keep-alives s v = record {

@@ -15,7 +15,8 @@ use Rattle.hex.specs.Hex.{isLine, toBytes, decoding}
 use Rattle.hex.proofs.Lines.{clash, no-line, read, line-long}
 use Rattle.handshake.specs.Version.{keepsAlive}
 use Rattle.handshake.specs.Negotiation.{negotiated}
-use Rattle.framing.specs.Feed.{Reading, message, keep-alive, most}
+use Rattle.framing.specs.Feed.{Reading, message, keep-alive}
+use Rattle.bolt.specs.Limits.{mostBytes}
 use Rattle.framing.specs.Reading.{frameOf, message-of, keep-alive-of, telling, leaves}
 use Rattle.values.specs.Decode.{decode}
 use Rattle.requests.specs.Requests.{requestOf}
@@ -148,19 +149,19 @@ module _ (room minor : ℕ) (s : List ℕ) where
   brought-long h = brought-none (line-long s h)
 
 -- a short line that does not ask for more room brings the same with more
-pub brought-alike : (room minor : ℕ) (s : List ℕ) (b : Brought) → room ≤ most → b ≡ broughtIn room minor s → (b ≡ refusal 21 → ⊥) → b ≡ broughtIn most minor s
+pub brought-alike : (room minor : ℕ) (s : List ℕ) (b : Brought) → room ≤ mostBytes → b ≡ broughtIn room minor s → (b ≡ refusal 21 → ⊥) → b ≡ broughtIn mostBytes minor s
 unfolding broughtIn
 brought-alike room minor s b h e other = by (isLine s) e
   where
     v : List ℕ
     v = toBytes s
 
-    frames : (frameOf (keepsAlive minor) room v ≡ refused 21 0) ⊎ (frameOf (keepsAlive minor) room v ≡ frameOf (keepsAlive minor) most v)
-        → b ≡ framed minor (length v) (frameOf (keepsAlive minor) room v) → b ≡ framed minor (length v) (frameOf (keepsAlive minor) most v)
+    frames : (frameOf (keepsAlive minor) room v ≡ refused 21 0) ⊎ (frameOf (keepsAlive minor) room v ≡ frameOf (keepsAlive minor) mostBytes v)
+        → b ≡ framed minor (length v) (frameOf (keepsAlive minor) room v) → b ≡ framed minor (length v) (frameOf (keepsAlive minor) mostBytes v)
     frames (inl x) k = absurd (other (k ∙ ap (framed minor (length v)) x))
     frames (inr x) k = k ∙ ap (framed minor (length v)) x
 
     by : (t : Bool) → b ≡ cond t (framed minor (length v) (frameOf (keepsAlive minor) room v)) (refusal 23)
-        → b ≡ cond t (framed minor (length v) (frameOf (keepsAlive minor) most v)) (refusal 23)
-    by true k = frames (frame-alike (keepsAlive minor) room most h v) k
+        → b ≡ cond t (framed minor (length v) (frameOf (keepsAlive minor) mostBytes v)) (refusal 23)
+    by true k = frames (frame-alike (keepsAlive minor) room mostBytes h v) k
     by false k = k

@@ -10,7 +10,7 @@ use Rattle.slices.specs.Parts.{front}
 use Rattle.refusal.specs.Answer.{Answer, result, refused, left}
 use Rattle.handshake.specs.declared.version.Version.{Version}
 use Rattle.handshake.specs.Version.{bytesOf}
-use Rattle.framing.specs.Feed.{most}
+use Rattle.bolt.specs.Limits.{mostBytes}
 use Rattle.connection.specs.declared.record.Connection.{Connection}
 use Rattle.session.specs.declared.phase.Phase.{Phase}
 use Rattle.session.specs.declared.phase.Phase.the-variants.{Awaiting, Open}
@@ -22,7 +22,8 @@ use Rattle.serving.specs.declared.Served.{Served}
 use Rattle.serving.specs.Serving.{stopped, idle, refusing, endOf, servedBy}
 use Rattle.session.specs.Receiving.{handshakeIn, broughtIn}
 use Rattle.session.specs.declared.line.Handled.the-variants as H
-use Rattle.session.specs.Session.{Next, isIdle, replying, zeros, greeting, answering, inPhase, nextOf, written, handling, telling, told, goingOn, putting, openingLines, replied}
+use Rattle.session.specs.Session.{Next, isIdle, replying, zeros, greeting, answering, inPhase, nextOf, written, handling, telling, told, goingOn, putting}
+use Rattle.session.specs.Private.Replies.{openingLines, replied}
 
 -- ---- the handshake
 -- four zeros are sent where nothing is in common, and only there
@@ -46,7 +47,7 @@ module _ (s : Session) (line : List ℕ) where
   unfolding nextOf
   next-awaiting r p e = e ∙ ap (λ (x : Phase). inPhase x (s .connection) line) (sym p)
 
-  pub next-open : (v : Version) (t : Served) → s .phase ≡ Open v → servedBy t ≡ answering (s .connection) (broughtIn most (v .minor) line)
+  pub next-open : (v : Version) (t : Served) → s .phase ≡ Open v → servedBy t ≡ answering (s .connection) (broughtIn mostBytes (v .minor) line)
       → replied (record { phase = Open v; opening = O.Nothing; served = t }) ≡ nextOf s line
   unfolding nextOf
   next-open v t p e = ap (replying (Open v) []) e ∙ ap (λ (x : Phase). inPhase x (s .connection) line) (sym p)

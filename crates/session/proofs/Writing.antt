@@ -29,7 +29,8 @@ use Rattle.session.specs.declared.reply.Reply.{Reply}
 use Rattle.session.specs.Text.{lineText, text}
 use Rattle.serving.specs.Serving.{endOf, summaryIn}
 use Rattle.session.proofs.Receiving.{from-start}
-use Rattle.session.specs.Session.{summaryLine, endLines, openingLines, replying, written, replied}
+use Rattle.session.specs.Session.{summaryLine, endLines, replying, written}
+use Rattle.session.specs.Private.Replies.{openingLines, replied}
 
 -- what is stored does not change how long a buffer is
 pub put-size : (d e : List ℕ) (at : ℕ) (v : List ℕ) → e ≡ sets d at v → length e ≡ length d

@@ -8,12 +8,14 @@ use Rattle.numbers.specs.TwosComplement.{twos}
 use Rattle.numbers.specs.Access.{unsignedAt}
 use Rattle.utf8.specs.Utf8.{utf8, sequencesFrom, sequence, completes}
 use Rattle.hex.specs.Hex.{isDigit, valueOf, digitOf, allDigits, isLine, toBytes, toDigits}
-use Rattle.handshake.specs.Version.{same as sameBytes, among}
+use Rattle.handshake.specs.Version.{among}
+use Rattle.slices.specs.Equality.{same}
 use Rattle.handshake.specs.Negotiation.{agrees, chosen, negotiated}
-use Rattle.framing.specs.Feed.{feed, most}
+use Rattle.framing.specs.Feed.{feed}
+use Rattle.bolt.specs.Limits.{mostBytes}
 use Rattle.framing.specs.Reading.{frameOf}
 use Rattle.markers.specs.Marker.{markerOf, lookup}
-use Rattle.values.specs.Decode.{messageOf, valueIn, valueAt, items, entries, keyAt, leafAt, leafValue, same, repeats}
+use Rattle.values.specs.Decode.{messageOf, valueIn, valueAt, items, entries, keyAt, leafAt, leafValue, repeats}
 use Rattle.markers.specs.Extents.{keyExtentAt, extentAt, leafExtent, containerExtent}
 use Rattle.markers.specs.Value.{count, countEntries}
 use Rattle.packing.specs.Packing.{pack, packItems, packEntries, packInteger, sizeHeader, narrowest, doublings}
@@ -49,13 +51,13 @@ sent =
     ∷ []
 
 pub one-run : runOf fresh (map toDigits come) ≡ text sent
-unfolding leadingZeros bigEndian bytesOf twos unsignedAt utf8 sequencesFrom sequence completes isDigit valueOf digitOf allDigits isLine toBytes toDigits sameBytes among agrees chosen negotiated feed frameOf markerOf lookup messageOf valueIn valueAt items entries keyAt keyExtentAt extentAt leafExtent containerExtent leafAt leafValue same repeats count countEntries pack packItems packEntries packInteger sizeHeader narrowest doublings wrongIn under hello transaction batch run tagged newState ignores handsOver handedSomewhere namesOpen isFull turnIn successStreams successSummary waitingRule numbersRule works mayBeInFlight countsRule stateRules rules keepsRules lineText text afterRefusal turnOf serving served handshakeIn broughtIn replying nextOf runOf
+unfolding leadingZeros bigEndian bytesOf twos unsignedAt utf8 sequencesFrom sequence completes isDigit valueOf digitOf allDigits isLine toBytes toDigits among agrees chosen negotiated feed frameOf markerOf lookup messageOf valueIn valueAt items entries keyAt keyExtentAt extentAt leafExtent containerExtent leafAt leafValue same repeats count countEntries pack packItems packEntries packInteger sizeHeader narrowest doublings wrongIn under hello transaction batch run tagged newState ignores handsOver handedSomewhere namesOpen isFull turnIn successStreams successSummary waitingRule numbersRule works mayBeInFlight countsRule stateRules rules keepsRules lineText text afterRefusal turnOf serving served handshakeIn broughtIn replying nextOf runOf
 one-run = refl
 
 -- "Checked in order: length and digits, handshake or frame, bytes after it (23), request": of two faults in a line the earlier one counts. One
 -- digit, which is no frame either; an empty message in 4.0 with a byte after it; and no request, with a byte after it
 pub in-order : _≡_ {A = List Brought}
-    (broughtIn most 1 (0x30 ∷ []) ∷ broughtIn most 0 (toDigits (0x00 ∷ 0x00 ∷ 0x00 ∷ [])) ∷ broughtIn most 1 (toDigits (0x00 ∷ 0x01 ∷ 0xEF ∷ 0x00 ∷ 0x00 ∷ 0x00 ∷ [])) ∷ [])
+    (broughtIn mostBytes 1 (0x30 ∷ []) ∷ broughtIn mostBytes 0 (toDigits (0x00 ∷ 0x00 ∷ 0x00 ∷ [])) ∷ broughtIn mostBytes 1 (toDigits (0x00 ∷ 0x01 ∷ 0xEF ∷ 0x00 ∷ 0x00 ∷ 0x00 ∷ [])) ∷ [])
     (refusal 23 ∷ refusal 5 ∷ refusal 23 ∷ [])
 unfolding bigEndian isDigit valueOf digitOf allDigits isLine toBytes toDigits feed frameOf broughtIn
 in-order = refl

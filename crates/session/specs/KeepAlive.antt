@@ -9,7 +9,8 @@ use Rattle.refusal.specs.Answer.{result}
 use Rattle.hex.specs.Hex.{isLine, toBytes}
 use Rattle.handshake.specs.declared.version.Version.{Version}
 use Rattle.handshake.specs.Version.{keepsAlive}
-use Rattle.framing.specs.Feed.{keep-alive, most}
+use Rattle.framing.specs.Feed.{keep-alive}
+use Rattle.bolt.specs.Limits.{mostBytes}
 use Rattle.framing.specs.Reading.{frameOf}
 use Rattle.session.specs.declared.phase.Phase.the-variants.{Open}
 use Rattle.session.specs.declared.phase.Session.{Session}
@@ -27,6 +28,6 @@ empty = 0x30 ∷ 0x30 ∷ 0x30 ∷ 0x30 ∷ []
 pub record KeepAlive (s : Session) (v : Version) : Type 0 where
   -- a line that is a keep-alive and no more
   pub silent : s .phase ≡ Open v → (line : List ℕ) → isLine line ≡ true
-      → frameOf (keepsAlive (v .minor)) most (toBytes line) ≡ result (keep-alive (length (toBytes line))) → nextOf s line ≡ unmoved s
+      → frameOf (keepsAlive (v .minor)) mostBytes (toBytes line) ≡ result (keep-alive (length (toBytes line))) → nextOf s line ≡ unmoved s
   -- `0000` is one where the version has keep-alives
   pub zeros : s .phase ≡ Open v → keepsAlive (v .minor) ≡ true → nextOf s empty ≡ unmoved s

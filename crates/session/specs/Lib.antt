@@ -4,4 +4,5 @@ pub mod Session
 pub mod KeepAlive
 pub mod Room
 pub mod Cases
-pub mod Starred
+pub mod CasesStarred
+pub mod Private

@@ -6,7 +6,6 @@ use mathlib.Core.List.{List}
 use lib.Dec.{ltb}
 use lib.ListN.{length}
 use Rattle.refusal.specs.Answer.{Answer, result, refused}
-use Rattle.refusal.specs.Numbers.{numberOf}
 use Rattle.hex.specs.Hex.{isLine, toBytes}
 use Rattle.handshake.specs.Version.{keepsAlive}
 use Rattle.handshake.specs.Negotiation.{negotiated}
@@ -17,8 +16,6 @@ use Rattle.requests.specs.declared.request.Request.{Request}
 use Rattle.requests.specs.Requests.{requestOf}
 use Rattle.summaries.specs.Arrivals.{arrivalOf}
 use Rattle.connection.specs.declared.record.Request.{Request as Arriving}
-use Rattle.session.specs.declared.receive.Received.{Received}
-use Rattle.session.specs.declared.receive.Received.the-variants as R
 
 -- ---- the handshake
 -- the minor version agreed on by a line of twenty bytes
@@ -54,9 +51,3 @@ framed minor size (refused number place) = refusal number
 unfoldable pub broughtIn : ℕ → ℕ → List ℕ → Brought
 broughtIn room minor line =
     cond (isLine line) (framed minor (length (toBytes line)) (frameOf (keepsAlive minor) room (toBytes line))) (refusal 23)
-
--- what the code answers, in these terms
-abbrev pub told : Received → Brought
-told R.KeepAlive = nothing
-told (R.Request r) = request r
-told (R.Refused why) = refusal (numberOf why)

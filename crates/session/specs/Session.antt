@@ -8,7 +8,7 @@ use Rattle.slices.specs.Parts.{front}
 use Rattle.refusal.specs.Answer.{Answer, result, refused}
 use Rattle.refusal.specs.Numbers.{numberOf}
 use Rattle.handshake.specs.Version.{bytesOf}
-use Rattle.framing.specs.Feed.{most}
+use Rattle.bolt.specs.Limits.{mostBytes}
 use Rattle.framing.specs.Chunking.{chunkOf, end as lastChunk}
 use Rattle.summaries.specs.Summaries.{packSummary}
 use Rattle.connection.specs.declared.record.Connection.{Connection}
@@ -17,13 +17,10 @@ use Rattle.connection.specs.Record.{fresh as freshRecord}
 use Rattle.session.specs.declared.phase.Phase.{Phase}
 use Rattle.session.specs.declared.phase.Phase.the-variants.{Awaiting, Open}
 use Rattle.session.specs.declared.phase.Session.{Session}
-use Rattle.session.specs.declared.reply.Opening.{Opening}
-use Rattle.session.specs.declared.reply.Opening.the-variants as O
-use Rattle.session.specs.declared.reply.Reply.{Reply}
 use Rattle.session.specs.declared.line.Handled.{Handled}
 use Rattle.session.specs.declared.line.Handled.the-variants as H
 use Rattle.session.specs.Text.{text}
-use Rattle.serving.specs.Serving.{End, idle, closed, refusal, Serving, stopped, refusing, served, servedBy}
+use Rattle.serving.specs.Serving.{End, idle, closed, refusal, Serving, stopped, refusing, served}
 use Rattle.session.specs.Receiving as Brought
 use Rattle.session.specs.Receiving.{handshakeIn, broughtIn}
 
@@ -78,7 +75,7 @@ answering c (Brought.refusal number) = refusing number c
 -- the handshake first, then one frame a line
 abbrev pub inPhase : Phase → Connection → List ℕ → Next
 inPhase Awaiting c line = greeting c (handshakeIn line)
-inPhase (Open v) c line = replying (Open v) [] (answering c (broughtIn most (v .minor) line))
+inPhase (Open v) c line = replying (Open v) [] (answering c (broughtIn mostBytes (v .minor) line))
 
 unfoldable pub nextOf : Session → List ℕ → Next
 nextOf s line = inPhase (s .phase) (s .connection) line
@@ -116,12 +113,3 @@ goingOn n s = n .session
 
 abbrev pub putting : Next → List ℕ → List ℕ
 putting n out = front (written n) out
-
--- the lines of an opening, and all of a reply
-abbrev pub openingLines : Opening → List (List ℕ)
-openingLines O.Nothing = []
-openingLines (O.Agreed v) = bytesOf (v .minor) ∷ []
-openingLines O.NothingInCommon = (0 ∷ 0 ∷ 0 ∷ 0 ∷ []) ∷ []
-
-abbrev pub replied : Reply → Next
-replied r = replying (r .phase) (openingLines (r .opening)) (servedBy (r .served))

@@ -5,11 +5,13 @@ ghost use Prim.Native.Nat.{_≤_, _/_};
 ghost use lib.ListN.{length};
 ghost use Rattle.handshake.specs.Version.{keepsAlive};
 ghost use Rattle.handshake.specs.Negotiation.{negotiated, told as agreed};
-ghost use Rattle.framing.specs.Feed.{most};
+ghost use Rattle.bolt.specs.Limits.{mostBytes};
 ghost use Rattle.framing.specs.Reading.{frameOf};
 ghost use Rattle.values.specs.Decode.{decode};
 ghost use Rattle.requests.specs.Requests.{requestOf};
-ghost use Rattle.session.specs.Receiving.{alone, handshakeIn, arriving, framed, broughtIn, told};
+ghost use Rattle.session.specs.Receiving.{alone, handshakeIn, arriving, framed, broughtIn};
+ghost use Rattle.session.specs.Private.Receiving.{told};
+use bolt::MOST_BYTES;
 use connection::record::Request;
 use framing::reader;
 use framing::reader::Frame;
@@ -112,16 +114,16 @@ fn receive_short(version: Version, line: &[u8]) -> Received
 
 fn receive_long(version: Version, line: &[u8]) -> Received
     requires { ⌜ length (now line) ≤ 40000 ⌝ }
-    ensures { λ r. ⌜ told r ≡ broughtIn most (version .minor) (now (line .entry)) ⌝ }
+    ensures { λ r. ⌜ told r ≡ broughtIn mostBytes (version .minor) (now (line .entry)) ⌝ }
 {
     let mut bytes = [0u8; 20000];
-    let mut message = [0u8; 16384];
+    let mut message = [0u8; MOST_BYTES];
     receive_in(version, line, &mut bytes, &mut message)
 }
 
 // What a line brings. A short line whose header announces more than the short memory holds is read again in the long one.
 pub fn receive(version: Version, line: &[u8]) -> Received
-    ensures { λ r. ⌜ told r ≡ broughtIn most (version .minor) (now (line .entry)) ⌝ }
+    ensures { λ r. ⌜ told r ≡ broughtIn mostBytes (version .minor) (now (line .entry)) ⌝ }
 {
     if 40000 < line.len() {
         return Received::Refused(Refusal::InvalidLine);

@@ -3,10 +3,11 @@ ghost use mathlib.Core.Path.{_≡_};
 ghost use Prim.Native.Nat.{_≤_};
 ghost use Rattle.refusal.specs.Numbers.{numberOf};
 ghost use Rattle.refusal.specs.Answer.{refused};
-ghost use Rattle.framing.specs.Feed.{most};
+ghost use Rattle.bolt.specs.Limits.{mostBytes};
 ghost use Rattle.session.specs.Receiving.{handshakeIn, broughtIn};
 ghost use Rattle.serving.specs.Serving.{servedBy};
-ghost use Rattle.session.specs.Session.{greeting, answering, nextOf, replied};
+ghost use Rattle.session.specs.Session.{greeting, answering, nextOf};
+ghost use Rattle.session.specs.Private.Replies.{replied};
 use super::phase::Phase;
 use super::phase::Session;
 use super::receive;
@@ -72,7 +73,7 @@ fn greet(connection: Connection, line: &[u8]) -> Reply
 
 // A line with a frame.
 fn answer(version: Version, connection: Connection, line: &[u8]) -> Served
-    ensures told { λ r. ⌜ servedBy r ≡ answering connection (broughtIn most (version .minor) (now (line .entry))) ⌝ }
+    ensures told { λ r. ⌜ servedBy r ≡ answering connection (broughtIn mostBytes (version .minor) (now (line .entry))) ⌝ }
     ensures few { λ r. ⌜ r .count ≤ 33 ⌝ }
 {
     match receive::receive(version, line) {

@@ -12,7 +12,8 @@ use Rattle.numbers.proofs.TwosComplement.{fits-yes}
 use Rattle.utf8.specs.Utf8.{utf8, sequencesFrom, sequence, completes}
 use Rattle.markers.specs.Value.{Value, null, boolean, integer, float, bytes, string, list, dictionary, structure, Items, no-items, item, Entries, no-entries, entry, count, countEntries, forget, relocate, relocateItems, relocateEntries}
 use Rattle.markers.specs.Extents.{mostOpen}
-use Rattle.values.specs.Decode.{same, repeats}
+use Rattle.values.specs.Decode.{repeats}
+use Rattle.slices.specs.Equality.{same}
 use Rattle.packing.specs.Packing.{packInteger}
 use Rattle.packstream.specs.RoundTrip.{packable, packableItems, packableEntries}
 use Rattle.packstream.proofs.RoundTrip.{round-trip}

@@ -1,3 +1,4 @@
 pub mod Arrivals
 pub mod Summaries
 pub mod SummaryForms
+pub mod Cases

@@ -1,23 +1,20 @@
 -- What a summary's bytes say: a client reads its Structure back, no shorter message says the same, and no other summary is packed so.
 -- Assumes nothing.
 use Prim.Native.Nat.{ℕ, _^_, _≤_}
-use mathlib.Core.Path.{_≡_, refl}
-use mathlib.Core.Bool.{Bool, true, false}
-use mathlib.Core.List.{List, [], _∷_, _++_, map}
+use mathlib.Core.Path.{_≡_}
+use mathlib.Core.Bool.{Bool, true}
+use mathlib.Core.List.{List}
 use lib.Dec.{ltb}
 use lib.ListN.{length}
-use Rattle.numbers.specs.BigEndian.{Bytes, bytesOf}
-use Rattle.numbers.specs.TwosComplement.{fitsIn, bitsOf}
+use Rattle.numbers.specs.BigEndian.{Bytes}
 use Rattle.refusal.specs.Answer.{result}
-use Rattle.markers.specs.Value.{Value, count, countEntries, forget}
+use Rattle.markers.specs.Value.{Value, forget}
 use Rattle.values.specs.Decode.{decode}
-use Rattle.markers.specs.Extents.{mostBytes}
-use Rattle.packing.specs.Packing.{narrowest, doublings, packInteger, sizeHeader, pack, packItems, packEntries}
+use Rattle.bolt.specs.Limits.{mostBytes}
 use Rattle.packstream.specs.RoundTrip.{located}
-use Rattle.connection.specs.declared.answers.Failure.the-variants as F
 use Rattle.connection.specs.declared.answers.Summary.{Summary}
 use Rattle.connection.specs.declared.answers.Summary.the-variants as S
-use Rattle.summaries.specs.Summaries.{code, message, textOf, structureOf, packSummary}
+use Rattle.summaries.specs.Summaries.{structureOf, packSummary}
 
 -- the number of a stream is a u32
 abbrev pub isNumbered : Summary → Bool
@@ -41,32 +38,3 @@ pub record SummaryForm (s : Summary) : Type 0 where
   pub distinct : (t : Summary) → isNumbered s ≡ true → isNumbered t ≡ true → packSummary s ≡ packSummary t → s ≡ t
 
 -- ---- the forms byte by byte, in one table under one statement
-record Case : Type 0 where
-  summary : Summary
-  bytes : List ℕ
-
-abbrev is : Summary → List ℕ → Case
-is s l = record { summary = s; bytes = l }
-
-abbrev cases : List Case
-cases =
-    is S.Ignored (0xB0 ∷ 0x7E ∷ [])
-    ∷ is S.Success (0xB1 ∷ 0x70 ∷ 0xA0 ∷ [])
-    -- as the bench trial program's run shows it
-    ∷ is (S.HasMore false) (0xB1 ∷ 0x70 ∷ 0xA1 ∷ 0x88 ∷ 0x68 ∷ 0x61 ∷ 0x73 ∷ 0x5F ∷ 0x6D ∷ 0x6F ∷ 0x72 ∷ 0x65 ∷ 0xC2 ∷ [])
-    ∷ is (S.HasMore true) (0xB1 ∷ 0x70 ∷ 0xA1 ∷ 0x88 ∷ 0x68 ∷ 0x61 ∷ 0x73 ∷ 0x5F ∷ 0x6D ∷ 0x6F ∷ 0x72 ∷ 0x65 ∷ 0xC3 ∷ [])
-    -- ★
-    ∷ is (S.Stream 5) (0xB1 ∷ 0x70 ∷ 0xA1 ∷ 0x83 ∷ 0x71 ∷ 0x69 ∷ 0x64 ∷ 0x05 ∷ [])
-    -- the last number that is given
-    ∷ is (S.Stream 65535) (0xB1 ∷ 0x70 ∷ 0xA1 ∷ 0x83 ∷ 0x71 ∷ 0x69 ∷ 0x64 ∷ 0xCA ∷ 0x00 ∷ 0x00 ∷ 0xFF ∷ 0xFF ∷ [])
-    ∷ is (S.Failure F.StreamsFull)
-    (0xB1 ∷ 0x7F ∷ 0xA2 ∷ 0x84 ∷ code ++ 0xD0 ∷ 17 ∷ textOf F.StreamsFull ++ 0x87 ∷ message ++ 0xD0 ∷ 17 ∷ textOf F.StreamsFull)
-    ∷ is (S.Failure F.StreamUnknown)
-    (0xB1 ∷ 0x7F ∷ 0xA2 ∷ 0x84 ∷ code ++ 0xD0 ∷ 20 ∷ textOf F.StreamUnknown ++ 0x87 ∷ message ++ 0xD0 ∷ 20 ∷ textOf F.StreamUnknown)
-    ∷ is (S.Failure F.EngineFailed)
-    (0xB1 ∷ 0x7F ∷ 0xA2 ∷ 0x84 ∷ code ++ 0xD0 ∷ 19 ∷ textOf F.EngineFailed ++ 0x87 ∷ message ++ 0xD0 ∷ 19 ∷ textOf F.EngineFailed)
-    ∷ []
-
-pub hold : map (λ c. packSummary (c .summary)) cases ≡ map (λ c. c .bytes) cases
-unfolding pack packItems packEntries sizeHeader packInteger narrowest doublings fitsIn bitsOf bytesOf count countEntries
-hold = refl

@@ -1,3 +1,3 @@
 pub mod Utf8
 pub mod Encoding
-pub mod Edges
+pub mod Cases

@@ -13,12 +13,14 @@ use Rattle.refusal.specs.declared.Refusal.{Refusal}
 use Rattle.refusal.specs.declared.Refusal.the-variants.{TooLong, TrailingBytes}
 use Rattle.markers.specs.Value.{Value}
 use Rattle.values.specs.Decode.{Parse, parsed, failed, valueAt, valueIn, whole, messageOf, answerOf, decode}
-use Rattle.markers.specs.Extents.{mostBytes, mostOpen}
-use Rattle.values.specs.Reading.{headOf, stepOf, Found, foundAt, tellMessage, tellValue}
+use Rattle.markers.specs.Extents.{mostOpen}
+use Rattle.bolt.specs.Limits.{mostBytes}
+use Rattle.values.specs.Reading.{headOf, Found, foundAt, tellMessage, tellValue}
+use Rattle.values.specs.Private.Steps.{stepOf}
 use Rattle.values.specs.Walk.{peekAt}
-use Rattle.values.specs.Placement.{Reads}
-use Rattle.values.specs.declared.read.Head.{Head}
-use Rattle.values.specs.declared.value.Step.the-variants as S
+use Rattle.values.specs.Private.Placement.{Reads}
+use Rattle.values.specs.declared.head.Head.{Head}
+use Rattle.values.specs.declared.step.Step.the-variants as S
 use Rattle.values.specs.declared.walk.Peeked.the-variants as P
 use Rattle.values.proofs.Steps.{step-to, step-refused}
 use Rattle.values.proofs.Placement.{placement}

@@ -19,14 +19,15 @@ use Rattle.numbers.specs.declared.Unsigned.the-variants as U
 use Rattle.numbers.proofs.Access.{unsigned-found, unsigned-number}
 use Rattle.markers.specs.Value as Tree
 use Rattle.markers.specs.Value.{Value, Items, no-items, Entries, no-entries, relocate, relocateItems, relocateEntries}
-use Rattle.markers.specs.Marker.{markerOf, hasSize}
+use Rattle.markers.specs.Marker.{markerOf}
+use Rattle.markers.specs.Private.Sizes.{hasSize}
 use Rattle.values.specs.Decode.{Parse, parsed, mapped, isText, leafValue, KeyText, repeats, keyAt, items, entries, valueAt}
 use Rattle.markers.specs.Extents.{sizeAt, extentAt, keyExtentAt}
-use Rattle.values.specs.Embedding.{Lies, ReadAlike}
-use Rattle.markers.specs.declared.marker.Leaf.{Leaf}
-use Rattle.markers.specs.declared.marker.Leaf.the-variants as L
-use Rattle.markers.specs.declared.marker.Container.{Container}
-use Rattle.markers.specs.declared.marker.Container.the-variants as C
+use Rattle.values.specs.Private.Embedding.{Lies, ReadAlike}
+use Rattle.markers.specs.declared.kind.Leaf.{Leaf}
+use Rattle.markers.specs.declared.kind.Leaf.the-variants as L
+use Rattle.markers.specs.declared.kind.Container.{Container}
+use Rattle.markers.specs.declared.kind.Container.the-variants as C
 use Rattle.markers.specs.declared.marker.Kind.{Kind}
 use Rattle.markers.specs.declared.marker.Kind.the-variants as K
 use Rattle.markers.specs.declared.marker.Marker.{Marker}

@@ -14,13 +14,14 @@ use Rattle.slices.proofs.Parts.{length-part, part-cons, getD-part}
 use Rattle.utf8.specs.Utf8.{utf8}
 use Rattle.refusal.specs.declared.Refusal.{Refusal}
 use Rattle.refusal.specs.declared.Refusal.the-variants.{InvalidUtf8, DuplicateKey, KeyNotString}
-use Rattle.values.specs.Decode.{Parse, parsed, failed, KeyText, same, repeats, keyOf, keyAt}
+use Rattle.values.specs.Decode.{Parse, parsed, failed, KeyText, repeats, keyOf, keyAt}
+use Rattle.slices.specs.Equality.{same}
 use Rattle.markers.specs.Extents.{keyExtentAt}
-use Rattle.values.specs.Keys.{keyOfParse, startOf, sizeOf, keysOf, KeysInside}
-use Rattle.markers.specs.declared.marker.Leaf.{Leaf}
+use Rattle.values.specs.Private.Keys.{keyOfParse, startOf, sizeOf, keysOf, KeysInside}
+use Rattle.markers.specs.declared.kind.Leaf.{Leaf}
 use Rattle.markers.specs.declared.extent.Extent.{Extent}
 use Rattle.markers.specs.declared.extent.Extent.the-variants as E
-use Rattle.markers.specs.declared.extent.Key.the-variants as Y
+use Rattle.values.specs.declared.keys.Key.the-variants as Y
 use Rattle.markers.proofs.Extents.{Inside, key-inside}
 
 -- ---- equal contents

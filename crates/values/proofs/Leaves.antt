@@ -18,12 +18,12 @@ use Rattle.numbers.proofs.Unsigned as Un
 use Rattle.numbers.proofs.Signed as Sg
 use Rattle.numbers.proofs.Access.{unsigned-number, signed-number}
 use Rattle.refusal.specs.declared.Refusal.the-variants.{InvalidUtf8}
-use Rattle.markers.specs.Marker.{hasSize}
+use Rattle.markers.specs.Private.Sizes.{hasSize}
 use Rattle.values.specs.Decode.{parsed, failed, isText, leafValue, leafAt}
 use Rattle.values.specs.Reading.{headOf}
-use Rattle.markers.specs.declared.marker.Leaf.{Leaf}
-use Rattle.markers.specs.declared.marker.Leaf.the-variants as L
-use Rattle.values.specs.declared.read.Head.the-variants as H
+use Rattle.markers.specs.declared.kind.Leaf.{Leaf}
+use Rattle.markers.specs.declared.kind.Leaf.the-variants as L
+use Rattle.values.specs.declared.head.Head.the-variants as H
 use Rattle.markers.proofs.Extents.{NoNumber, not-first}
 
 -- a read of bytes that are there finds a number

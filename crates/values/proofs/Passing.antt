@@ -12,12 +12,12 @@ use Rattle.markers.specs.Extents.{extentAt, mostOpen}
 use Rattle.values.specs.Decode.{leafValue}
 use Rattle.values.specs.Reading.{headOf}
 use Rattle.values.specs.Walk.{peekOf, peekAt, skipThen, past, skipOf, skipWithin}
-use Rattle.markers.specs.declared.marker.Leaf.{Leaf}
-use Rattle.markers.specs.declared.marker.Container.{Container}
-use Rattle.markers.specs.declared.marker.Container.the-variants as C
+use Rattle.markers.specs.declared.kind.Leaf.{Leaf}
+use Rattle.markers.specs.declared.kind.Container.{Container}
+use Rattle.markers.specs.declared.kind.Container.the-variants as C
 use Rattle.markers.specs.declared.extent.Extent.{Extent}
 use Rattle.markers.specs.declared.extent.Extent.the-variants as E
-use Rattle.values.specs.declared.read.Head.the-variants as H
+use Rattle.values.specs.declared.head.Head.the-variants as H
 use Rattle.values.specs.declared.walk.Peeked.the-variants as P
 use Rattle.values.specs.declared.walk.Skipped.{Skipped}
 use Rattle.values.specs.declared.walk.Skipped.the-variants as S

@@ -15,15 +15,16 @@ use Rattle.refusal.proofs.Answer.{anywhere}
 use Rattle.refusal.specs.declared.Refusal.the-variants.{TooLong, ValueTruncated, TooDeep, InvalidUtf8, KeyNotString, DuplicateKey, TrailingBytes}
 use Rattle.markers.specs.Value.{Value, item, entry, list, dictionary, structure}
 use Rattle.markers.specs.Marker.{markerOf, isString}
-use Rattle.markers.specs.declared.marker.Leaf.{Leaf}
-use Rattle.markers.specs.declared.marker.Container.{Container}
-use Rattle.markers.specs.declared.marker.Container.the-variants as C
+use Rattle.markers.specs.declared.kind.Leaf.{Leaf}
+use Rattle.markers.specs.declared.kind.Container.{Container}
+use Rattle.markers.specs.declared.kind.Container.the-variants as C
 use Rattle.markers.specs.declared.marker.Kind.{Kind}
 use Rattle.markers.specs.declared.marker.Kind.the-variants as K
 use Rattle.markers.specs.declared.marker.Marker.{Marker}
 use Rattle.markers.specs.declared.extent.Extent.{Extent}
 use Rattle.markers.specs.declared.extent.Extent.the-variants as E
-use Rattle.markers.specs.Extents.{sizeAt, onSize, leafExtent, containerExtent, kindExtent, extentAt, keyKindExtent, keyExtentAt, mostBytes, mostOpen}
+use Rattle.markers.specs.Extents.{sizeAt, onSize, leafExtent, containerExtent, kindExtent, extentAt, keyKindExtent, keyExtentAt, mostOpen}
+use Rattle.bolt.specs.Limits.{mostBytes}
 use Rattle.values.specs.Decode.{Parse, parsed, failed, andThen, mapped, leafValue, isText, leafAt, items, repeats, KeyText, keyOf, keyAt, entries, containerAt, valueOf, valueAt, valueIn, whole, messageOf, answerOf, decode}
 
 -- ---- extents

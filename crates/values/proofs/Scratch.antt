@@ -7,7 +7,7 @@ use native.Mathlib.Omega.{arith}
 use lib.ListN.{length, getD, take, set, length-set}
 use lib.Seq.{getD-take, getD-set-same, getD-set-other, take-set-le, take-take}
 use Rattle.slices.specs.Parts.{part}
-use Rattle.values.specs.Keys.{startOf, sizeOf, keysOf, KeysInside}
+use Rattle.values.specs.Private.Keys.{startOf, sizeOf, keysOf, KeysInside}
 
 -- scratches that agree on m places agree on fewer, and at each of them
 pub take-less : (a b : List ℕ) (n m : ℕ) → n ≤ m → take m a ≡ take m b → take n a ≡ take n b

@@ -15,13 +15,13 @@ use Rattle.markers.specs.Value as Tree
 use Rattle.markers.specs.Value.{Value, Items, no-items, item, Entries, no-entries, entry, count, countEntries, first, firstEntry}
 use Rattle.values.specs.Decode.{Parse, parsed, failed, andThen, mapped, isText, leafValue, leafAt, KeyText, keyAt, items, entries, structureAt, containerAt, valueOf, valueAt}
 use Rattle.markers.specs.Extents.{extentAt}
-use Rattle.values.specs.Reading.{stepOf}
-use Rattle.markers.specs.declared.marker.Leaf.{Leaf}
-use Rattle.markers.specs.declared.marker.Container.{Container}
-use Rattle.markers.specs.declared.marker.Container.the-variants as C
+use Rattle.values.specs.Private.Steps.{stepOf}
+use Rattle.markers.specs.declared.kind.Leaf.{Leaf}
+use Rattle.markers.specs.declared.kind.Container.{Container}
+use Rattle.markers.specs.declared.kind.Container.the-variants as C
 use Rattle.markers.specs.declared.extent.Extent.{Extent}
 use Rattle.markers.specs.declared.extent.Extent.the-variants as E
-use Rattle.values.specs.declared.value.Step.the-variants as S
+use Rattle.values.specs.declared.step.Step.the-variants as S
 use Rattle.markers.proofs.Extents.{Inside, extent-inside, key-inside, room-for}
 use Rattle.values.proofs.Leaves.{leaf-text, leaf-no-text}
 use Rattle.values.proofs.KeySearch as Keys

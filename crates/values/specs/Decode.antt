@@ -1,14 +1,12 @@
 -- The value that a message is, or the refusal: document 01, "Values", "Checks at one value, in order". Assumes nothing.
 use Prim.Native.Nat.{ℕ, zero, suc, _+_}
-use mathlib.Core.Bool.{Bool, true, false, cond, _&&_, _||_}
+use mathlib.Core.Bool.{Bool, true, false, cond, _||_}
 use mathlib.Core.List.{List, [], _∷_}
 use lib.Dec.{ltb, eqb}
 use lib.ListN.{length, getD}
 use Rattle.slices.specs.Parts.{part}
 use Rattle.numbers.specs.BigEndian.{bigEndian}
 use Rattle.numbers.specs.TwosComplement.{twos}
-use Rattle.numbers.specs.declared.Unsigned.{Unsigned}
-use Rattle.numbers.specs.declared.Unsigned.the-variants as U
 use Rattle.utf8.specs.Utf8.{utf8}
 use Rattle.refusal.specs.Numbers.{numberOf}
 use Rattle.refusal.specs.Answer.{Answer, result, refused}
@@ -16,15 +14,15 @@ use Rattle.refusal.specs.declared.Refusal.{Refusal}
 use Rattle.refusal.specs.declared.Refusal.the-variants.{TooLong, ValueTruncated, TooDeep, InvalidUtf8, KeyNotString, DuplicateKey, TrailingBytes}
 use Rattle.markers.specs.Value.{Value, null, boolean, integer, float, bytes, string, list, dictionary, structure, Items, no-items, item, Entries, no-entries, entry}
 use Rattle.markers.specs.Marker.{isString}
-use Rattle.markers.specs.declared.marker.Leaf.the-variants as L
-use Rattle.markers.specs.declared.marker.Leaf.{Leaf}
-use Rattle.markers.specs.declared.marker.Container.the-variants as C
-use Rattle.markers.specs.declared.marker.Container.{Container}
-use Rattle.markers.specs.declared.marker.Kind.the-variants as K
-use Rattle.markers.specs.declared.marker.Kind.{Kind}
+use Rattle.markers.specs.declared.kind.Leaf.the-variants as L
+use Rattle.markers.specs.declared.kind.Leaf.{Leaf}
+use Rattle.markers.specs.declared.kind.Container.the-variants as C
+use Rattle.markers.specs.declared.kind.Container.{Container}
 use Rattle.markers.specs.declared.extent.Extent.the-variants as E
 use Rattle.markers.specs.declared.extent.Extent.{Extent}
-use Rattle.markers.specs.Extents.{extentAt, keyExtentAt, mostOpen, mostBytes}
+use Rattle.markers.specs.Extents.{extentAt, keyExtentAt, mostOpen}
+use Rattle.bolt.specs.Limits.{mostBytes}
+use Rattle.slices.specs.Equality.{same}
 
 -- ---- reading from left to right
 
@@ -65,14 +63,7 @@ unfoldable pub items : (ℕ → Parse Value) → ℕ → ℕ → Parse Items
 items f zero at = parsed no-items at
 items f (suc n) at = andThen (f at) (λ v p. mapped (item at v) (items f n p))
 
--- "comparing content and not form"
-unfoldable pub same : List ℕ → List ℕ → Bool
-same [] [] = true
-same [] (b ∷ t) = false
-same (a ∷ s) [] = false
-same (a ∷ s) (b ∷ t) = eqb a b && same s t
-
--- one of the keys before it is the same
+-- one of the keys before it is the same, "comparing content and not form"
 unfoldable pub repeats : List ℕ → List (List ℕ) → Bool
 repeats key [] = false
 repeats key (k ∷ ks) = same k key || repeats key ks

@@ -1,6 +1,4 @@
 pub mod Decode
-pub mod Keys
+pub mod Private
 pub mod Reading
 pub mod Walk
-pub mod Placement
-pub mod Embedding

@@ -9,12 +9,10 @@ use Rattle.refusal.specs.Answer.{Answer, result, refused}
 use Rattle.markers.specs.Value.{Value, null, boolean, integer, float, bytes, string, list, dictionary, structure, count, countEntries, first, firstEntry}
 use Rattle.values.specs.Decode.{Parse, parsed, failed}
 use Rattle.markers.specs.Extents.{mostOpen}
-use Rattle.values.specs.declared.read.Head.the-variants as H
-use Rattle.values.specs.declared.read.Head.{Head}
+use Rattle.values.specs.declared.head.Head.the-variants as H
+use Rattle.values.specs.declared.head.Head.{Head}
 use Rattle.values.specs.declared.read.Reading.the-variants as R
 use Rattle.values.specs.declared.read.Reading.{Reading}
-use Rattle.values.specs.declared.value.Step.the-variants as S
-use Rattle.values.specs.declared.value.Step.{Step}
 
 -- the head of a value that ends at `end`: its kind, and what it holds or where that lies
 unfoldable pub headOf : Value → ℕ → Head
@@ -36,11 +34,6 @@ pub record Found : Type 0 where
 -- of this value, ending here
 abbrev pub foundAt : ℕ → Value → Found
 foundAt end v = record { head = headOf v end; end = end }
-
--- how far a reader comes: the offset past what it reads, or the refusal
-abbrev pub stepOf : {A : Type 0} → Parse A → Step
-stepOf (parsed a end) = S.To end
-stepOf (failed why place) = S.Refused why place
 
 -- the code's answer in the paper's terms
 abbrev pub told : Reading → Answer Found

@@ -5,11 +5,16 @@ ghost use Prim.Native.Nat.{_+_, _*_, _≤_};
 ghost use lib.ListN.{length};
 ghost use Rattle.slices.specs.Parts.{part};
 ghost use Rattle.values.specs.Decode.{repeats, keyAt};
-ghost use Rattle.values.specs.Keys.{keyOfParse, keysOf, KeysInside};
+ghost use Rattle.values.specs.Private.Keys.{keyOfParse, keysOf, KeysInside};
 use markers::extent::Extent;
-use markers::extent::Key;
 use markers::extent::key_extent_at;
 use refusal::Refusal;
+
+// What is read where a key is wanted: where its content lies.
+pub enum Key {
+    String { start: usize, size: usize },
+    Refused { refusal: Refusal, place: usize },
+}
 
 fn wide(x: u16) -> usize
     ensures { λ r. ⌜ r ≡ x ⌝ }

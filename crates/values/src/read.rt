@@ -3,30 +3,16 @@ ghost use mathlib.Core.Path.{_≡_};
 ghost use Prim.Native.Nat.{_≤_};
 ghost use lib.ListN.{length};
 ghost use Rattle.values.specs.Decode.{valueAt, valueIn, decode};
-ghost use Rattle.values.specs.Reading.{allowed, stepOf, told, tellMessage, tellValue};
-use crate::value::Step;
+ghost use Rattle.values.specs.Reading.{allowed, told, tellMessage, tellValue};
+ghost use Rattle.values.specs.Private.Steps.{stepOf};
+use crate::head::Head;
+use crate::step::Step;
 use crate::value::value;
 use crate::walk::Peeked;
 use crate::walk::peek;
+use bolt::MOST_BYTES;
+use markers::extent::MOST_OPEN;
 use refusal::Refusal;
-
-// What a value is, with where its parts lie in the message.
-pub enum Head {
-    Null,
-    Boolean(bool),
-    Integer(i64),
-    // The 64 bits.
-    Float(u64),
-    // The content: `size` bytes from `start` on.
-    Bytes { start: usize, size: usize },
-    String { start: usize, size: usize },
-    // `count` items: the first one's marker is at `first`, and each other's where the one before it ends.
-    List { first: usize, count: usize },
-    // `count` entries, each a key and a value, laid out in the same way.
-    Dictionary { first: usize, count: usize },
-    // `count` fields, laid out in the same way.
-    Structure { tag: u8, first: usize, count: usize },
-}
 
 // What a reader answers.
 pub enum Reading {
@@ -34,12 +20,6 @@ pub enum Reading {
     Value { head: Head, end: usize },
     Refused { refusal: Refusal, place: usize },
 }
-
-// At most so many containers may be open.
-pub const MOST_OPEN: usize = 16;
-
-// A message has at most so many bytes.
-const MOST_BYTES: usize = 16384;
 
 // A message of at most so many bytes is read with a small scratch, which is quick to clear.
 const SHORT: usize = 256;

@@ -6,31 +6,17 @@ ghost use mathlib.Core.List.{[]};
 ghost use Prim.Native.Nat.{_≤_, _<_};
 ghost use lib.ListN.{length, take};
 ghost use Rattle.values.specs.Decode.{items, entries, structureAt, valueAt};
-ghost use Rattle.values.specs.Keys.{Room};
-ghost use Rattle.values.specs.Reading.{stepOf};
+ghost use Rattle.values.specs.Private.Keys.{Room};
+ghost use Rattle.values.specs.Private.Steps.{stepOf};
+use crate::keys::Key;
 use crate::keys::read_key;
 use crate::leaf::read_leaf;
+use crate::step::Step;
+use crate::step::refused;
 use markers::extent::Extent;
-use markers::extent::Key;
 use markers::extent::extent_at;
-use markers::marker::Container;
+use markers::kind::Container;
 use refusal::Refusal;
-
-// How far a reader came. What it read is not put together: only the head of the value that a caller asks for is.
-pub enum Step {
-    // The offset past what was read.
-    To(usize),
-    Refused { refusal: Refusal, place: usize },
-}
-
-pub fn refused(refusal: Refusal, place: usize) -> Step
-    ensures { λ r. ⌜ r ≡ Step.Refused refusal place ⌝ }
-{
-    Step::Refused {
-        refusal: refusal,
-        place: place,
-    }
-}
 
 // Reads the value at `at`, with room for `depth` open containers. The scratch has, up to `top`, the keys of the dictionaries that are open; what
 // lies past `top` is free.

@@ -1,12 +1,12 @@
 // Walking through a message that was read already, from value to value: no text is checked again, no key compared, and nothing cleared.
 ghost use mathlib.Core.Path.{_≡_};
 ghost use Rattle.values.specs.Walk.{peekAt, past, skipWithin, skipAt};
+use crate::head::Head;
 use crate::leaf::leaf_head;
-use crate::read::Head;
-use crate::read::MOST_OPEN;
 use markers::extent::Extent;
+use markers::extent::MOST_OPEN;
 use markers::extent::extent_at;
-use markers::marker::Container;
+use markers::kind::Container;
 
 // What stands at an offset of a message that was read already.
 pub enum Peeked {

@@ -13,7 +13,7 @@
 // which 19 goes on with for the values inside: those of a container stand behind it.
 use crate::answers;
 use console::output;
-use values::read::Head;
+use values::head::Head;
 use values::read::Reading;
 use values::walk::Peeked;
 use values::walk::Skipped;

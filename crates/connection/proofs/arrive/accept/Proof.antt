@@ -6,7 +6,7 @@ use borrow.Author.Tests.{eq-eqb, ne-eqb}
 use Rattle.connection.specs.declared.record.Control.{Control}
 use Rattle.connection.specs.declared.answers.Arrival.the-variants.{Closed}
 use Rattle.connection.specs.Record.{joined, toldArrive}
-use Rattle.connection.specs.Parts.{defunctIn}
+use Rattle.connection.specs.Private.Parts.{defunctIn}
 use Rattle.connection.proofs.Keeping.{Fits, accept-closes, accept-resets, accept-queues}
 use Rattle.connection.proofs.Lengths.{slots, streams}
 use Rattle.connection.proofs.arrive.accept.Statement.{statement}

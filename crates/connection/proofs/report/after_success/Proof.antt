@@ -3,7 +3,7 @@ use borrow.Author.Needs.{needs}
 use mathlib.Core.Path.{refl, sym, ap, _∙_}
 use mathlib.Core.Bool.{Bool, cond}
 use Rattle.connection.specs.declared.record.State.the-variants.{Ready, Streaming, TxReady, TxStreaming}
-use Rattle.connection.specs.Requests.{HELLO, GOODBYE, RESET, RUN, BEGIN, COMMIT, ROLLBACK, DISCARD, PULL}
+use Rattle.bolt.specs.Requests.{HELLO, GOODBYE, RESET, RUN, BEGIN, COMMIT, ROLLBACK, DISCARD, PULL}
 use Rattle.connection.proofs.Outcomes.{state-by}
 use Rattle.connection.proofs.Rows.{after-success, after-batch}
 use Rattle.connection.proofs.report.after_success.Statement.{statement}

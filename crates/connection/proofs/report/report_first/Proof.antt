@@ -15,8 +15,9 @@ use Rattle.connection.specs.declared.answers.Summary.{Summary}
 use Rattle.connection.specs.Requests.{inState}
 use Rattle.connection.specs.Table.{Done, answer, fitting, summaryOf, settled, reportFirst}
 use Rattle.connection.specs.Rules.{mayBeInFlight}
-use Rattle.connection.specs.Record.{joined, front, behind, firstIn, openOf, kept, carried, toldReport}
-use Rattle.connection.specs.Parts.{settledIn}
+use Rattle.connection.specs.Record.{joined, front, openOf, kept, carried, toldReport}
+use Rattle.connection.specs.Private.Queue.{behind, firstIn}
+use Rattle.connection.specs.Private.Parts.{settledIn}
 use Rattle.connection.proofs.Keeping.{Fits, answers}
 use Rattle.connection.proofs.Lengths.{slots, streams}
 use Rattle.connection.proofs.Numbers.{laid-own}

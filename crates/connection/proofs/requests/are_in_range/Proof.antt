@@ -3,7 +3,7 @@ use borrow.Author.Needs.{needs}
 use mathlib.Core.Path.{sym, ap, _∙_}
 use mathlib.Core.Bool.{Bool, _&&_}
 use mir.Facts.{toZ-ofZ}
-use Rattle.connection.specs.Requests.{minusOneOr}
+use Rattle.bolt.specs.Ranges.{minusOneOr}
 use Rattle.connection.proofs.requests.are_in_range.Statement.{statement}
 use Rattle.connection.proofs.requests.are_in_range.Tie as tie
 

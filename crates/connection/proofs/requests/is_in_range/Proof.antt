@@ -2,7 +2,8 @@
 use borrow.Author.Needs.{needs}
 use mathlib.Core.Path.{sym, ap, _∙_}
 use mathlib.Core.Bool.{_&&_}
-use Rattle.connection.specs.Requests.{minusOneOr, inRange}
+use Rattle.connection.specs.Requests.{inRange}
+use Rattle.bolt.specs.Ranges.{minusOneOr}
 use Rattle.connection.proofs.Signed.{held}
 use Rattle.connection.proofs.requests.is_in_range.Statement.{statement}
 use Rattle.connection.proofs.requests.is_in_range.Tie as tie

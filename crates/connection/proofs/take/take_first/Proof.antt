@@ -16,10 +16,12 @@ use Rattle.connection.specs.declared.answers.Summary.the-variants as S
 use Rattle.connection.specs.declared.answers.Taken.the-variants as A
 use Rattle.connection.specs.declared.turn.Turn.{Turn}
 use Rattle.connection.specs.declared.turn.Turn.the-variants as U
-use Rattle.connection.specs.Requests.{RESET, is, any}
+use Rattle.connection.specs.Requests.{is, any}
+use Rattle.bolt.specs.Requests.{RESET}
 use Rattle.connection.specs.Table.{Done, noneOpen, answer, handed, taken, takeFirst, turnOf}
-use Rattle.connection.specs.Record.{After, joined, front, behind, firstIn, openOf, kept, carried, toldTake}
-use Rattle.connection.specs.Parts.{clearedIn}
+use Rattle.connection.specs.Record.{After, joined, front, openOf, kept, carried, toldTake}
+use Rattle.connection.specs.Private.Queue.{behind, firstIn}
+use Rattle.connection.specs.Private.Parts.{clearedIn}
 use Rattle.connection.proofs.Keeping.{Fits, put-handed, answers, first-taken}
 use Rattle.connection.proofs.Lengths.{slots, streams}
 use Rattle.connection.proofs.Numbers.{laid-own}

@@ -6,7 +6,8 @@ use borrow.Author.Tests.{eq-eqb, ne-eqb, not-true, not-false}
 use Rattle.connection.specs.declared.record.State.{State}
 use Rattle.connection.specs.declared.record.Request.{Request}
 use Rattle.connection.specs.declared.turn.Turn.the-variants.{Full, Unknown, Handed}
-use Rattle.connection.specs.Requests.{RUN, is, fetches}
+use Rattle.connection.specs.Requests.{is, fetches}
+use Rattle.bolt.specs.Requests.{RUN}
 use Rattle.connection.specs.Table.{Open, isFull, namesOpen, turnOf}
 use Rattle.connection.specs.Record.{openOf}
 use Rattle.connection.proofs.Rows.{run-fetches}

@@ -9,7 +9,8 @@ use borrow.Author.Needs.{needs}
 use lib.ListN.{length}
 use Rattle.slices.specs.Parts.{part}
 use Rattle.numbers.specs.BigEndian.{bigEndian}
-use Rattle.framing.specs.Reading.{frameOf, IsMessage}
+use Rattle.framing.specs.Reading.{frameOf}
+use Rattle.framing.specs.Private.Copying.{IsMessage}
 use Rattle.framing.proofs.Copying.{Copied, copied-none, message-header, message-end, message-small, message-inside, message-next}
 use Rattle.framing.proofs.reader.copy_message.Statement.{statement}
 use Rattle.framing.proofs.reader.copy_message.Tie as tie

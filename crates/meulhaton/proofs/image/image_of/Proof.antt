@@ -7,8 +7,8 @@ use Rattle.meulhaton.proofs.image.image_of.Tie as tie
 slot-images-requires : tie.Need-slot-images-requires
 slot-images-requires c κs = search needs
 
-state-number-requires : tie.Need-state-number-requires
-state-number-requires c κs = search needs
+rank-requires : tie.Need-rank-requires
+rank-requires c κs = search needs
 
 cast-t10 : tie.Need-cast-t10
 cast-t10 c = search needs
@@ -17,7 +17,7 @@ returns : tie.Need-returns
 returns c =
     let a = c .before .before .before .before .before .before .before .before .args .connection .control in
     λ j. record {
-      state = c .before .before .before .state-number .ensures j;
+      state = c .before .before .before .rank .ensures j;
       «in_flight» = as-number (a .«in_flight») j;
       waiting = a .waiting;
       opened = a .streams .count;
@@ -29,4 +29,4 @@ returns c =
     }
 
 pub image-of-spec : {M : Type 1} → statement M
-image-of-spec = tie.close (tie.spec slot-images-requires state-number-requires cast-t10 returns)
+image-of-spec = tie.close (tie.spec slot-images-requires rank-requires cast-t10 returns)

@@ -10,11 +10,11 @@ use Rattle.meulhaton.proofs.image.is_state.Tie as tie
 state-of-requires : tie.Need-state-of-requires
 state-of-requires c κs = search needs
 
-state-number-requires : tie.Need-state-number-requires
-state-number-requires c κs = search needs
+rank-requires : tie.Need-rank-requires
+rank-requires c κs = search needs
 
 returns : tie.Need-returns
-returns c = ap (λ (n : ℕ). eqb n (c .before .before .args .number)) (c .state-number .ensures ∙ ap rank (c .before .state-of .ensures))
+returns c = ap (λ (n : ℕ). eqb n (c .before .before .args .number)) (c .rank .ensures ∙ ap rank (c .before .state-of .ensures))
 
 pub is-state-spec : {M : Type 1} → statement M
-is-state-spec = tie.close (tie.spec state-of-requires state-number-requires returns)
+is-state-spec = tie.close (tie.spec state-of-requires rank-requires returns)

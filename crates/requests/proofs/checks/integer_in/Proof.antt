@@ -1,8 +1,7 @@
 -- `requests::checks::integer_in` meets its contract: by the kinds of the view, and by the range. Assumes nothing.
 use mathlib.Core.Path.{sym, ap, _∙_}
 use mir.Facts.{toZ-ofZ}
-use borrow.Author.Needs.{sfits-of}
-use borrow.Author.Needs.{needs}
+use borrow.Author.Needs.{sfits-of, needs}
 use Rattle.requests.specs.Checks.{inRange, integerAt, refusedBy}
 use Rattle.requests.proofs.Checking.{in-range, out-of-range, not-integer}
 use Rattle.requests.proofs.checks.integer_in.Statement.{statement}

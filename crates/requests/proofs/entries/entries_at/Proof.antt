@@ -2,7 +2,7 @@
 use mathlib.Core.Path.{sym, ap, _∙_}
 use borrow.Author.Needs.{needs}
 use Rattle.values.specs.declared.walk.Peeked.the-variants as P
-use Rattle.requests.specs.Walk.{entriesFound}
+use Rattle.requests.specs.Private.Walk.{entriesFound}
 use Rattle.requests.proofs.Viewing.{not-dictionary}
 use Rattle.requests.proofs.entries.entries_at.Statement.{statement}
 use Rattle.requests.proofs.entries.entries_at.Tie as tie

@@ -7,7 +7,7 @@ use native.Mathlib.Omega.{arith}
 use lib.ListN.{length}
 use borrow.Author.Needs.{needs}
 use Rattle.values.specs.Walk.{peekAt}
-use Rattle.requests.specs.Walk.{stringFound}
+use Rattle.requests.specs.Private.Walk.{stringFound}
 use Rattle.requests.specs.declared.request.Text.the-variants as T
 use Rattle.requests.proofs.Naming.{number-bound}
 use Rattle.requests.proofs.Peeking.{string-within}

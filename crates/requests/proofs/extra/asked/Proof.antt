@@ -1,7 +1,7 @@
 -- `requests::extra::asked` meets its contract: by the kind. Assumes nothing.
 use mathlib.Core.Path.{sym, ap, _∙_}
 use borrow.Author.Needs.{needs}
-use Rattle.requests.specs.Requests.{toldTransaction, toldBatch}
+use Rattle.requests.specs.Private.Checks.{toldTransaction, toldBatch}
 use Rattle.requests.proofs.extra.asked.Statement.{statement}
 use Rattle.requests.proofs.extra.asked.Tie as tie
 

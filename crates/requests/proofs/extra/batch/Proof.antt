@@ -3,12 +3,12 @@ use mathlib.Core.Path.{_≡_, ap, _∙_}
 use native.Mathlib.Omega.{arith}
 use mir.Syntax.{w64}
 use mir.Facts.{toZ-ofZ}
-use borrow.Author.Needs.{sfits-of}
-use borrow.Author.Needs.{needs}
+use borrow.Author.Needs.{sfits-of, needs}
 use Rattle.requests.specs.Names as Name
-use Rattle.requests.specs.Checks.{integerIn, inRange, refusedBy, toldNumber}
+use Rattle.requests.specs.Checks.{integerIn, inRange, refusedBy}
+use Rattle.requests.specs.Private.Checks.{toldNumber}
 use Rattle.requests.specs.Requests.{batch}
-use Rattle.requests.specs.Walk.{entryIn}
+use Rattle.requests.specs.Private.Walk.{entryIn}
 use Rattle.requests.specs.declared.checks.Range.the-variants.{Records, Stream}
 use Rattle.requests.specs.declared.checks.CheckedNumber.{CheckedNumber}
 use Rattle.requests.proofs.Extras.{entry-is, checked}

@@ -1,8 +1,7 @@
 -- `requests::extra::or_minus_one` meets its contract. Assumes nothing.
 use mathlib.Core.Path.{sym, ap, _∙_}
 use mir.Facts.{toZ-ofZ}
-use borrow.Author.Needs.{sfits-of}
-use borrow.Author.Needs.{needs}
+use borrow.Author.Needs.{sfits-of, needs}
 use Rattle.requests.specs.Checks.{orMinusOne}
 use Rattle.requests.proofs.extra.or_minus_one.Statement.{statement}
 use Rattle.requests.proofs.extra.or_minus_one.Tie as tie

@@ -3,9 +3,10 @@ use mathlib.Core.Path.{_≡_, _∙_}
 use native.Mathlib.Omega.{arith}
 use borrow.Author.Needs.{needs}
 use Rattle.requests.specs.Names as Name
-use Rattle.requests.specs.Checks.{stringIn, dictionaryIn, listOfStringsIn, modeIn, integerIn, inRange, toldText, toldPlace, toldNumber, toldMode}
+use Rattle.requests.specs.Checks.{stringIn, dictionaryIn, listOfStringsIn, modeIn, integerIn, inRange}
+use Rattle.requests.specs.Private.Checks.{toldText, toldPlace, toldNumber, toldMode}
 use Rattle.requests.specs.Requests.{transaction}
-use Rattle.requests.specs.Walk.{entryIn}
+use Rattle.requests.specs.Private.Walk.{entryIn}
 use Rattle.requests.specs.declared.checks.Range.the-variants.{Timeout}
 use Rattle.requests.specs.declared.checks.CheckedText.{CheckedText}
 use Rattle.requests.specs.declared.checks.CheckedPlace.{CheckedPlace}

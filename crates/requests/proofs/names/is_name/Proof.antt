@@ -3,7 +3,7 @@ use mathlib.Core.Path.{sym, ap, _∙_}
 use Prim.Native.Nat.{_≤_, _-_}
 use native.Mathlib.Omega.{arith}
 use Rattle.slices.specs.Parts.{part}
-use Rattle.values.specs.Decode.{same}
+use Rattle.slices.specs.Equality.{same}
 use Rattle.requests.proofs.Naming.{spaced, written, startOf, written-length, its-room, name-is, Comparing, comparing-none, all-equal, one-equal, one-differs}
 use Rattle.requests.proofs.names.is_name.Statement.{statement}
 use Rattle.requests.proofs.names.is_name.Tie as tie

@@ -3,15 +3,14 @@ use mathlib.Core.Path.{sym, ap, _∙_}
 use Prim.Native.Nat.{_+_}
 use native.Mathlib.Omega.{arith}
 use borrow.Author.Needs.{needs}
-use Rattle.refusal.specs.Answer.{Answer, result}
-use Rattle.requests.specs.Checks.{andThen}
-use Rattle.requests.specs.Requests.{toldTransaction}
+use Rattle.refusal.specs.Answer.{Answer, result, andThen}
+use Rattle.requests.specs.Checks.{refusedBy}
+use Rattle.requests.specs.Private.Checks.{toldTransaction}
 use Rattle.requests.specs.declared.request.Span.{Span}
 use Rattle.requests.specs.declared.request.Transaction.{Transaction}
 use Rattle.requests.specs.declared.request.Request.{Request}
 use Rattle.requests.specs.declared.request.Request.the-variants as R
 use Rattle.requests.specs.declared.extra.CheckedTransaction.{CheckedTransaction}
-use Rattle.requests.specs.Checks.{refusedBy}
 use Rattle.requests.specs.Requests.{run, told}
 use Rattle.requests.proofs.Peeking.{string-within}
 use Rattle.requests.proofs.Fields.{three-wrong, no-query, no-parameters, not-cut, no-run-extra, run-there}

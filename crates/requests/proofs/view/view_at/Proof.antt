@@ -1,13 +1,12 @@
 -- `requests::view::view_at` meets its contract: by the head that is found. Assumes nothing.
 use mathlib.Core.Path.{_≡_, sym, ap, _∙_}
 use mir.Facts.{toZ-ofZ}
-use borrow.Author.Needs.{sfits-of}
+use borrow.Author.Needs.{sfits-of, needs}
 use borrow.Author.Tests.{eq-eqb, ne-eqb}
-use borrow.Author.Needs.{needs}
 use Rattle.values.specs.Walk.{peekAt}
 use Rattle.values.specs.declared.walk.Peeked.the-variants as P
 use Rattle.requests.specs.View.{span}
-use Rattle.requests.specs.Walk.{stringFound, viewHead, viewAt}
+use Rattle.requests.specs.Private.Walk.{stringFound, viewHead, viewAt}
 use Rattle.requests.specs.declared.view.View.{View}
 use Rattle.requests.specs.declared.view.View.the-variants as As
 use Rattle.requests.proofs.Peeking.{string-within}

@@ -6,7 +6,8 @@ use borrow.Author.Needs.{needs}
 use lib.ListN.{length}
 use Rattle.serving.specs.declared.Ending.{Ending}
 use Rattle.serving.specs.Serving.{endOf}
-use Rattle.session.specs.Session.{isIdle, written, replied}
+use Rattle.session.specs.Session.{isIdle, written}
+use Rattle.session.specs.Private.Replies.{replied}
 use Rattle.session.proofs.Replies.{unmoved, went-on, came-to-end, session-after, text-after}
 use Rattle.session.proofs.line.handle.Statement.{statement}
 use Rattle.session.proofs.line.handle.Tie as tie

@@ -4,7 +4,8 @@ use native.Mathlib.Omega.{arith}
 use borrow.Author.Needs.{needs}
 use Rattle.refusal.specs.Numbers.{numberOf}
 use Rattle.hex.proofs.Lines.{clash}
-use Rattle.session.specs.Receiving.{nothing, request, refusal, told}
+use Rattle.session.specs.Receiving.{nothing, request, refusal}
+use Rattle.session.specs.Private.Receiving.{told}
 use Rattle.session.proofs.Receiving.{brought-long, brought-alike}
 use Rattle.session.proofs.receive.receive.Statement.{statement}
 use Rattle.session.proofs.receive.receive.Tie as tie

@@ -1,7 +1,7 @@
 -- `reply::answer` meets its contract: in each arm the match told what the line brings. Assumes nothing.
 use mathlib.Core.Path.{sym, ap, _∙_}
 use borrow.Author.Needs.{needs}
-use Rattle.session.specs.Receiving.{told}
+use Rattle.session.specs.Private.Receiving.{told}
 use Rattle.session.specs.Session.{answering}
 use Rattle.session.proofs.reply.answer.Statement.{statement}
 use Rattle.session.proofs.reply.answer.Tie as tie

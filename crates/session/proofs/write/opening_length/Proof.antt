@@ -5,7 +5,7 @@ use borrow.Author.Needs.{needs}
 use lib.ListN.{length}
 use Rattle.session.specs.declared.reply.Opening.{Opening}
 use Rattle.session.specs.Text.{text}
-use Rattle.session.specs.Session.{openingLines}
+use Rattle.session.specs.Private.Replies.{openingLines}
 use Rattle.session.proofs.Writing.{length-none, length-one}
 use Rattle.session.proofs.write.opening_length.Statement.{statement}
 use Rattle.session.proofs.write.opening_length.Tie as tie

@@ -7,7 +7,7 @@ use lib.ListN.{length}
 use Rattle.handshake.specs.Version.{bytesOf}
 use Rattle.session.specs.declared.reply.Opening.{Opening}
 use Rattle.session.specs.Text.{lineText, text}
-use Rattle.session.specs.Session.{openingLines}
+use Rattle.session.specs.Private.Replies.{openingLines}
 use Rattle.session.proofs.Writing.{length-line, text-none, text-one, none-put, one-put, at-front}
 use Rattle.session.proofs.write.put_opening.Statement.{statement}
 use Rattle.session.proofs.write.put_opening.Tie as tie

@@ -1,9 +1,8 @@
 -- `summaries::arrival::arrival_of` meets its contract. Assumes nothing.
 use mathlib.Core.Path.{sym, ap}
 use mir.Facts.{toZ-ofZ}
-use borrow.Author.Needs.{sfits-of}
+use borrow.Author.Needs.{sfits-of, needs}
 use Rattle.summaries.specs.Arrivals.{arrivalOf}
-use borrow.Author.Needs.{needs}
 use Rattle.summaries.proofs.arrival.arrival_of.Statement.{statement}
 use Rattle.summaries.proofs.arrival.arrival_of.Tie as tie
 

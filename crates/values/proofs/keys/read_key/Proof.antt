@@ -5,7 +5,7 @@ use Prim.Native.Nat.{ℕ}
 use borrow.Author.Needs.{needs}
 use borrow.Author.Tests.{not-true, not-false}
 use Rattle.markers.specs.Extents.{keyExtentAt}
-use Rattle.values.specs.Keys.{keyOfParse, keysOf}
+use Rattle.values.specs.Private.Keys.{keyOfParse, keysOf}
 use Rattle.markers.specs.declared.extent.Extent.the-variants as E
 use Rattle.values.proofs.KeySearch.{key-by, leaf-key-inside, key-no-text, key-repeated, key-new}
 use Rattle.values.proofs.keys.read_key.Statement.{statement}

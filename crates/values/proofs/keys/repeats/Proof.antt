@@ -8,8 +8,8 @@ use native.Mathlib.Omega.{arith}
 use borrow.Author.Needs.{needs}
 use lib.ListN.{length}
 use Rattle.slices.specs.Parts.{part}
-use Rattle.values.specs.Decode.{same}
-use Rattle.values.specs.Keys.{startOf, sizeOf}
+use Rattle.slices.specs.Equality.{same}
+use Rattle.values.specs.Private.Keys.{startOf, sizeOf}
 use Rattle.values.proofs.KeySearch.{Comparing, comparing-none, other-size, last-differs, all-equal, one-equal, one-differs, Searching, none-left, equal-key, other-key, key-inside-at}
 use Rattle.values.proofs.keys.repeats.Statement.{statement}
 use Rattle.values.proofs.keys.repeats.Tie as tie

@@ -3,7 +3,7 @@ use mathlib.Core.Path.{ap, _∙_}
 use native.Mathlib.Omega.{arith}
 use borrow.Author.Needs.{needs}
 use mir.Facts.{toZ-ofZ}
-use Rattle.values.specs.declared.read.Head.the-variants as H
+use Rattle.values.specs.declared.head.Head.the-variants as H
 use Rattle.values.proofs.Leaves.{null-head, boolean-head, integer-head, float-head, bytes-head, string-head, boolean-size, integer-size, float-size}
 use Rattle.values.proofs.leaf.leaf_head.Statement.{statement}
 use Rattle.values.proofs.leaf.leaf_head.Tie as tie

@@ -2,7 +2,7 @@
 use mathlib.Core.Path.{sym, ap, _∙_}
 use borrow.Author.Needs.{needs}
 use borrow.Author.Tests.{not-true, not-false}
-use Rattle.values.specs.Reading.{stepOf}
+use Rattle.values.specs.Private.Steps.{stepOf}
 use Rattle.values.proofs.Leaves.{leaf-text, leaf-no-text}
 use Rattle.values.proofs.leaf.read_leaf.Statement.{statement}
 use Rattle.values.proofs.leaf.read_leaf.Tie as tie

@@ -2,8 +2,9 @@
 use mathlib.Core.Path.{_≡_, sym, ap, _∙_}
 use borrow.Author.Needs.{needs}
 use Rattle.values.specs.Decode.{valueAt}
-use Rattle.values.specs.Reading.{stepOf, told, tellValue}
-use Rattle.values.specs.declared.value.Step.the-variants as S
+use Rattle.values.specs.Reading.{told, tellValue}
+use Rattle.values.specs.Private.Steps.{stepOf}
+use Rattle.values.specs.declared.step.Step.the-variants as S
 use Rattle.values.proofs.Answers.{value-too-long, value-not-long, read-head, read-no-head, read-stopped}
 use Rattle.values.proofs.read.read_at.Statement.{statement}
 use Rattle.values.proofs.read.read_at.Tie as tie

@@ -9,9 +9,9 @@ use borrow.Fn.PlainCycle.{Measures, is, falls, and}
 use lib.ListN.{length, take, length-set}
 use Rattle.markers.specs.Extents.{extentAt}
 use Rattle.values.specs.Decode.{valueAt}
-use Rattle.values.specs.Keys.{keysOf, KeysInside}
-use Rattle.values.specs.Reading.{stepOf}
-use Rattle.markers.specs.declared.marker.Container.the-variants as C
+use Rattle.values.specs.Private.Keys.{keysOf, KeysInside}
+use Rattle.values.specs.Private.Steps.{stepOf}
+use Rattle.markers.specs.declared.kind.Container.the-variants as C
 use Rattle.markers.specs.declared.extent.Extent.the-variants as E
 use Rattle.markers.proofs.Extents.{Inside, extent-inside, room-for}
 use Rattle.values.proofs.KeySearch.{KeyRead, key-read, key-refused}
@@ -32,7 +32,7 @@ use Rattle.values.proofs.value.+dictionary+list+structure+value.Lts-val
 use Rattle.markers.proofs.extent.extent_at.Reads as extent-at-reads
 use Rattle.values.proofs.keys.read_key.Reads as read-key-reads
 use Rattle.values.proofs.leaf.read_leaf.Reads as read-leaf-reads
-use Rattle.values.proofs.value.refused.Reads as refused-reads
+use Rattle.values.proofs.step.refused.Reads as refused-reads
 use Rattle.values.proofs.value.+dictionary+list+structure+value.{statement}
 use Rattle.values.proofs.value.+dictionary+list+structure+value.Tie.{close}
 

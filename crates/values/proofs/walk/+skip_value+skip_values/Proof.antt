@@ -8,7 +8,7 @@ use borrow.Fn.Kinds.{In}
 use borrow.Fn.PlainCycle.{Measures, is, falls, and}
 use Rattle.markers.specs.Extents.{extentAt}
 use Rattle.values.specs.Walk.{skipWithin}
-use Rattle.markers.specs.declared.marker.Container.the-variants as C
+use Rattle.markers.specs.declared.kind.Container.the-variants as C
 use Rattle.markers.specs.declared.extent.Extent.the-variants as E
 use Rattle.markers.proofs.Extents.{Inside, extent-inside, room-for, count-bound}
 use Rattle.values.proofs.Passing.{skip-leaf, skip-nothing, skip-as, skip-no-tag, skip-fields, PastLeft, past-none, past-done, past-next, past-stop}

@@ -1,6 +1,7 @@
 -- `Version::from_bytes` meets its contract: each test of a byte is one of the versions' bytes. Assumes nothing.
 use borrow.Author.Needs.{needs}
-use Rattle.handshake.specs.Version.{among, same}
+use Rattle.handshake.specs.Version.{among}
+use Rattle.slices.specs.Equality.{same}
 use Rattle.handshake.proofs.Proposals.{wrong-first, wrong-second, wrong-major, wrong-minor, right}
 use Rattle.handshake.proofs.version.Version.from_bytes.Statement.{statement}
 use Rattle.handshake.proofs.version.Version.from_bytes.Tie as tie

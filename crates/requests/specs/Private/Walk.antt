@@ -10,14 +10,14 @@ use Rattle.slices.specs.Parts.{part}
 use Rattle.refusal.specs.Answer.{Answer}
 use Rattle.markers.specs.Value.{Items, count}
 use Rattle.values.specs.Walk.{peekAt, skipAt}
-use Rattle.values.specs.Placement.{ItemsLie}
-use Rattle.values.specs.declared.read.Head.{Head}
-use Rattle.values.specs.declared.read.Head.the-variants as H
+use Rattle.values.specs.Private.Placement.{ItemsLie}
+use Rattle.values.specs.declared.head.Head.{Head}
+use Rattle.values.specs.declared.head.Head.the-variants as H
 use Rattle.values.specs.declared.walk.Peeked.{Peeked}
 use Rattle.values.specs.declared.walk.Peeked.the-variants as Pk
 use Rattle.values.specs.declared.walk.Skipped.{Skipped}
 use Rattle.values.specs.declared.walk.Skipped.the-variants as S
-use Rattle.requests.specs.Names.{names, indexOf}
+use Rattle.requests.specs.Private.Names.{names, indexOf}
 use Rattle.requests.specs.View.{span, modeNamed}
 use Rattle.requests.specs.Requests.{Lookup, told}
 use Rattle.requests.specs.declared.request.Span.{Span}

@@ -4,9 +4,9 @@ use mathlib.Core.List.{List, [], _∷_}
 use lib.ListN.{length, getD}
 use Rattle.slices.specs.Parts.{part}
 use Rattle.values.specs.Decode.{Parse, parsed, failed, KeyText}
-use Rattle.markers.specs.Extents.{mostBytes}
-use Rattle.markers.specs.declared.extent.Key.{Key}
-use Rattle.markers.specs.declared.extent.Key.the-variants as Y
+use Rattle.bolt.specs.Limits.{mostBytes}
+use Rattle.values.specs.declared.keys.Key.{Key}
+use Rattle.values.specs.declared.keys.Key.the-variants as Y
 
 -- the answer of the code that reads a key
 abbrev pub keyOfParse : Parse KeyText → Key

@@ -1,8 +1,8 @@
--- `connection::requests::is_count` meets its contract: by the number's sign. Assumes nothing.
+-- `bolt::is_count` meets its contract: by the number's sign. Assumes nothing.
 use mir.Facts.{toZ-ofZ}
-use Rattle.connection.proofs.Signed.{count-low, count-high}
-use Rattle.connection.proofs.requests.is_count.Statement.{statement}
-use Rattle.connection.proofs.requests.is_count.Tie as tie
+use Rattle.bolt.proofs.Ranges.{count-low, count-high}
+use Rattle.bolt.proofs.is_count.Statement.{statement}
+use Rattle.bolt.proofs.is_count.Tie as tie
 
 returns : tie.Need-returns
 returns c = count-high (c .before .args .n) _ (toZ-ofZ (c .before .fits .n)) (c .if1 .taken)

@@ -11,11 +11,13 @@ use Rattle.utf8.specs.Utf8.{utf8, sequencesFrom, sequence, completes}
 use Rattle.refusal.specs.Answer.{Answer, result, refused}
 use Rattle.handshake.specs.Version.{keepsAlive}
 use Rattle.handshake.specs.Negotiation.{negotiated, agrees}
-use Rattle.framing.specs.Feed.{Reading, message, keep-alive, most, feed}
+use Rattle.framing.specs.Feed.{Reading, message, keep-alive, feed}
+use Rattle.bolt.specs.Limits.{mostBytes}
 use Rattle.framing.specs.Reading.{frameOf}
 use Rattle.markers.specs.Value.{Value, integer, string, count, countEntries}
 use Rattle.markers.specs.Marker.{markerOf, lookup}
-use Rattle.values.specs.Decode.{decode, messageOf, valueIn, valueAt, items, entries, keyAt, leafAt, leafValue, same, repeats}
+use Rattle.values.specs.Decode.{decode, messageOf, valueIn, valueAt, items, entries, keyAt, leafAt, leafValue, repeats}
+use Rattle.slices.specs.Equality.{same}
 use Rattle.markers.specs.Extents.{keyExtentAt, extentAt, leafExtent, containerExtent}
 use Rattle.packing.specs.Packing.{packInteger, narrowest, doublings, sizeHeader, pack, packItems, packEntries}
 use Rattle.packstream.specs.RoundTrip.{located, locatedItems, locatedEntries}
@@ -50,7 +52,7 @@ pub data Made : Type 0 where
 -- each by its layer's meaning
 abbrev pub meaning : Given → Made
 meaning (handshake s) = version (negotiated s)
-meaning (frame minor s) = reading (frameOf (keepsAlive minor) most s)
+meaning (frame minor s) = reading (frameOf (keepsAlive minor) mostBytes s)
 meaning (value s) = decoded (decode s)
 meaning (request minor s) = asked (requestOf minor (decode s))
 meaning (number z) = packed (packInteger z)

@@ -18,11 +18,13 @@ use Rattle.connection.specs.declared.answers.Reported.the-variants.{Answ
 use Rattle.connection.specs.declared.answers.AfterReport.{AfterReport}
 use Rattle.connection.specs.declared.answers.Taken.the-variants as T
 use Rattle.connection.specs.declared.answers.AfterTake.{AfterTake}
-use Rattle.connection.specs.Requests.{Kind, HELLO, RUN, is, isKind, kindOf, inState}
+use Rattle.connection.specs.Requests.{is, isKind, kindOf, inState}
+use Rattle.bolt.specs.Requests.{Kind, HELLO, RUN}
 use Rattle.connection.specs.Appendix.{handsOver, newState}
 use Rattle.connection.specs.Table.{Open, noneOpen, isFull, fitting, response, streamsAfter}
 use Rattle.connection.specs.Rules.{mayBeInFlight}
-use Rattle.connection.specs.Record.{joined, front, behind, firstIn, linedUp, openOf, laid}
+use Rattle.connection.specs.Record.{joined, front, linedUp, openOf, laid}
+use Rattle.connection.specs.Private.Queue.{behind, firstIn}
 
 -- a request can be accepted
 pub record Accepting (k : Control) : Type 0 where

@@ -5,7 +5,7 @@ use Prim.Native.Nat.{ℕ, _+_, _≤_}
 use lib.ListN.{length}
 use Rattle.slices.specs.Parts.{part}
 use Rattle.markers.specs.Value.{Value, relocate}
-use Rattle.values.specs.Placement.{Reads}
+use Rattle.values.specs.Private.Placement.{Reads}
 
 -- the bytes s lie in t from k on
 pub record Lies (s t : List ℕ) (k : ℕ) : Type 0 where

@@ -9,7 +9,7 @@ use Rattle.markers.specs.Value.{Value, null, boolean, integer, float, bytes, st
 use Rattle.values.specs.Decode.{parsed, valueAt}
 use Rattle.values.specs.Reading.{headOf}
 use Rattle.values.specs.Walk.{peekAt, skipAt}
-use Rattle.values.specs.declared.read.Head.the-variants as H
+use Rattle.values.specs.declared.head.Head.the-variants as H
 use Rattle.values.specs.declared.walk.Peeked.the-variants as P
 use Rattle.values.specs.declared.walk.Skipped.the-variants as S
 

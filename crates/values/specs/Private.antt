@@ -1,0 +1,4 @@
+pub mod Keys
+pub mod Placement
+pub mod Embedding
+pub mod Steps
