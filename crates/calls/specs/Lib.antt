@@ -1,1 +1,1 @@
-pub mod Conversation
+pub mod Private

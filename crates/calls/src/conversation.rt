@@ -7,7 +7,7 @@ use connection::answers::Taken;
 use connection::record::Connection;
 use connection::record::Request;
 ghost use mathlib.Core.Path.{_≡_};
-ghost use Rattle.calls.specs.Conversation.{conversation, told};
+ghost use Rattle.calls.specs.Private.Conversation.{conversation, told};
 
 // What the calls answered, in their order.
 pub struct Heard {

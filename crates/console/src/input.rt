@@ -1,6 +1,8 @@
 // Standard input, line by line, through a buffer that the program lends to each call and leaves alone between them. A line ends with 0A,
 // which the last may lack: it is a line if it has characters. Of a line that is longer than the buffer enough is kept to know that it is
-// too long.
+// too long: a buffer has to be longer than what is kept.
+ghost use mathlib.Core.Path.{_≡_};
+ghost use mathlib.Core.Bool.{false};
 ghost use Prim.Native.Nat.{_≤_};
 ghost use lib.ListN.{length};
 use libc::STDIN_FILENO;
@@ -19,7 +21,9 @@ pub struct Input {
 }
 
 // The input of which nothing was read.
-pub fn fresh() -> Input {
+pub fn fresh() -> Input
+    ensures { λ r. ⌜ r ≡ record { found = false; start = 0; end = 0; filled = 0 } ⌝ }
+{
     Input {
         found: false,
         start: 0,

@@ -1,6 +1,6 @@
 -- What was read or written lies inside the buffer that was lent for it. Assumes nothing.
 use mathlib.Core.Path.{_≡_, refl}
-use mathlib.Core.Bool.{Bool, true, false, cond, _||_}
+use mathlib.Core.Bool.{Bool, true, false, cond}
 use mathlib.Core.List.{List, [], _∷_}
 use Prim.Native.Nat.{ℕ, zero, suc, _+_, _≤_}
 use native.Mathlib.Omega.{arith}
@@ -8,11 +8,10 @@ use lib.Dec.{eqb, ltb}
 use lib.ListN.{length, length-append}
 use borrow.Author.Tests.{ltb-false}
 use Rattle.numbers.specs.BigEndian.{bigEndian}
-use Rattle.refusal.specs.Answer.{Answer, result, refused, counted}
+use Rattle.refusal.specs.Answer.{Answer, result, refused}
 use Rattle.framing.specs.Feed.{Reading, message, keep-alive, Waiting, chunk, header, Progress, done, waits, start, ended, opened, step, unlessDone, feed}
 use Rattle.bolt.specs.Limits.{mostBytes}
 use Rattle.framing.specs.Reading.{message-of, telling, closed, frameOf}
-use Rattle.framing.specs.Chunking.{chunked, writing}
 
 clash : _≡_ {A = ℕ} 0 1 → ⊥
 clash z = omega arith
@@ -82,14 +81,3 @@ module _ (alive : Bool) (room : ℕ) where
       by (refused number place) k e = absurd (clash (cc))
 
 -- ---- the writer
--- the length that the writer tells
-pub written-fits : (c room : ℕ) (m : List ℕ) {n : ℕ} → result n ≡ counted (writing c room m) → n ≤ room
-unfolding writing
-written-fits c room m {n} e = by (eqb (length m) 0 || (eqb c 0 || ltb 65535 c)) (ltb mostBytes (length m)) (ltb room (length (chunked c m))) refl e
-  where
-    by : (x y z : Bool) → ltb room (length (chunked c m)) ≡ z
-        → result n ≡ counted (cond x (refused 22 0) (cond y (refused 6 0) (cond z (refused 21 0) (result (chunked c m))))) → n ≤ room
-    by true y z k e = absurd (clash (cc))
-    by false true z k e = absurd (clash (cc))
-    by false false true k e = absurd (clash (cc))
-    by false false false k e = let l : n ≡ length (chunked c m) = cc in omega (arith, ltb-false room (length (chunked c m)) k)

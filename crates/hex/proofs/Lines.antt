@@ -230,7 +230,3 @@ decoded-fits room s {n} e = by (isLine s) e
     by : (t : Bool) → result n ≡ counted (cond t (into room (toBytes s)) (refused 23 0)) → n ≤ room
     by true e = into-fits room (toBytes s) e
     by false e = absurd (clash (cc))
-
-pub encoded-fits : (room : ℕ) (v : List ℕ) {n : ℕ} → result n ≡ counted (encoding room v) → n ≤ room
-unfolding encoding
-encoded-fits room v e = into-fits room (toDigits v) e

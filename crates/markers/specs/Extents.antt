@@ -8,6 +8,8 @@ use Rattle.slices.specs.Parts.{reaches}
 use Rattle.numbers.specs.Access.{unsignedAt}
 use Rattle.numbers.specs.declared.Unsigned.{Unsigned}
 use Rattle.numbers.specs.declared.Unsigned.the-variants as U
+use Rattle.refusal.specs.Numbers.{numberOf}
+use Rattle.refusal.specs.Answer.{Answer, result, refused}
 use Rattle.refusal.specs.declared.Refusal.the-variants.{ValueTruncated, ReservedMarker, TooDeep, KeyNotString}
 use Rattle.markers.specs.Marker.{markerOf, isString}
 use Rattle.markers.specs.declared.kind.Leaf.{Leaf}
@@ -71,3 +73,15 @@ keyExtentAt s at =
     cond (ltb at (length s))
     (keyKindExtent s at (markerOf (getD s at 0)) (markerOf (getD s at 0) .kind))
     (missing s)
+
+-- ---- the code's answer in document 01's terms: the value's kind and where its content lies, or the refusal's number and its place
+pub data Content : Type 0 where
+  -- so many bytes from an offset on
+  leaf : Leaf → ℕ → ℕ → Content
+  -- so many items, entries or fields, from an offset on
+  container : Container → ℕ → ℕ → Content
+
+abbrev pub told : Extent → Answer Content
+told (E.Leaf k start size) = result (leaf k start size)
+told (E.Container k start count) = result (container k start count)
+told (E.Refused why place) = refused (numberOf why) place

@@ -80,7 +80,7 @@ pub fn integer_length(number: i64) -> usize
 }
 
 // How many bytes the header of a String or a Dictionary takes.
-pub fn header_length(size: usize) -> usize
+fn header_length(size: usize) -> usize
     ensures { λ r. ⌜ r ≡ headerLength size ⌝ }
 {
     if size < 16 {

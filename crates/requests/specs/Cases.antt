@@ -1,4 +1,4 @@
--- Requests at the edges: document 01, "Cases at the edges", with some more of our own, in one table under one statement. Assumes nothing.
+-- Requests at the edges, in one table under one statement; those that document 01 stars stand with the other starred ones, in session. Assumes nothing.
 use mathlib.Core.Path.{_≡_, refl}
 use mathlib.Core.List.{List, [], _∷_, map}
 use Prim.Native.Nat.{ℕ}
@@ -32,12 +32,8 @@ is minor m a = record { minor = minor; message = m; answer = a }
 
 abbrev cases : List Case
 cases =
-    -- ★
-    is 0 (0xB1 ∷ 0x3F ∷ 0xA1 ∷ 0x81 ∷ 0x6E ∷ 0x00 ∷ []) (refused 16 5)
-    -- ★
-    ∷ is 0 (0xB1 ∷ 0x3F ∷ 0xA0 ∷ []) (refused 16 2)
     -- -1 asks for all of the latest stream; the order of the message does not matter
-    ∷ is 0 (0xB1 ∷ 0x3F ∷ 0xA1 ∷ 0x81 ∷ 0x6E ∷ 0xFF ∷ []) (result (R.Pull (record { n = negsuc 0; qid = negsuc 0 })))
+    is 0 (0xB1 ∷ 0x3F ∷ 0xA1 ∷ 0x81 ∷ 0x6E ∷ 0xFF ∷ []) (result (R.Pull (record { n = negsuc 0; qid = negsuc 0 })))
     ∷ is 0 (0xB1 ∷ 0x2F ∷ 0xA2 ∷ 0x83 ∷ 0x71 ∷ 0x69 ∷ 0x64 ∷ 0x07 ∷ 0x81 ∷ 0x6E ∷ 0xC9 ∷ 0x03 ∷ 0xE8 ∷ [])
     (result (R.Discard (record { n = pos 1000; qid = pos 7 })))
     -- a known name with Null counts as absent

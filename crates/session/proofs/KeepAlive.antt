@@ -47,6 +47,7 @@ empty-frame alive e = ap (λ (b : Bool). frameOf b mostBytes (toBytes empty)) e
 
 pub keep-alives : (s : Session) (v : Version) → KeepAlive s v
 keep-alives s v = record {
+  no-call = alone s v;
   silent = λ begun line l f. quiet s v begun line (alone s v begun line l f);
   zeros = λ begun k. quiet s v begun empty (alone s v begun empty empty-line (empty-frame (keepsAlive (v .minor)) k));
 }

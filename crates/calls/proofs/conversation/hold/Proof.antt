@@ -62,7 +62,7 @@ use Rattle.connection_in_place.proofs.close.Symbol.{name as #close, routine as 
 use Rattle.connection_in_place.proofs.close.Met as close-thm
 use Rattle.connection_in_place.proofs.Lending.{vals, lies-in}
 use Rattle.calls.specs.declared.conversation.Heard.{Heard}
-use Rattle.calls.specs.Conversation.{after, round, conversation, told}
+use Rattle.calls.specs.Private.Conversation.{after, round, conversation, told}
 use Rattle.calls.proofs.OnePlace.{Plain, row, spell, Fits, typed, ref, Callee, asks, asks-more, room-of, calls-on}
 use Rattle.calls.proofs.conversation.Heard as U
 use Rattle.calls.proofs.conversation.Heard.Laws as U′
