@@ -2,15 +2,15 @@
 use Prim.Native.Nat.{ℕ}
 use lib.IntN.{pos}
 use Rattle.refusal.specs.Answer.{Answer, result, refused}
-use Rattle.requests.specs.declared.request.Span.{Span}
-use Rattle.requests.specs.declared.request.Text.{Text}
-use Rattle.requests.specs.declared.request.Text.the-variants as T
-use Rattle.requests.specs.declared.request.Place.{Place}
-use Rattle.requests.specs.declared.request.Place.the-variants as P
+use Rattle.entries.specs.declared.view.Span.{Span}
+use Rattle.entries.specs.declared.view.Text.{Text}
+use Rattle.entries.specs.declared.view.Text.the-variants as T
+use Rattle.entries.specs.declared.view.Place.{Place}
+use Rattle.entries.specs.declared.view.Place.the-variants as P
 use Rattle.requests.specs.declared.request.Number.{Number}
 use Rattle.requests.specs.declared.request.Number.the-variants as N
-use Rattle.requests.specs.declared.request.Mode.{Mode}
-use Rattle.requests.specs.declared.request.Mode.the-variants as M
+use Rattle.entries.specs.declared.view.Mode.{Mode}
+use Rattle.entries.specs.declared.view.Mode.the-variants as M
 use Rattle.requests.specs.declared.request.Transaction.{Transaction}
 use Rattle.requests.specs.declared.request.Request.{Request}
 use Rattle.requests.specs.declared.request.Request.the-variants as R

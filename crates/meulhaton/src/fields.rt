@@ -1,12 +1,12 @@
 // The fields of requests, as numbers.
 ghost use mathlib.Core.Path.{_≡_};
 ghost use Rattle.meulhaton.specs.Requests.{spanImage, textImage, placeImage, placed, numberImage, modeNumber, transactionImage, noTransaction, helloImage, noHello, runImage, noRun, noFields, fieldsOf};
-use requests::request::Mode;
+use entries::view::Mode;
+use entries::view::Place;
+use entries::view::Span;
+use entries::view::Text;
 use requests::request::Number;
-use requests::request::Place;
 use requests::request::Request;
-use requests::request::Span;
-use requests::request::Text;
 use requests::request::Transaction;
 
 // A String that may be absent: its content is `size` bytes of the message from `start` on.

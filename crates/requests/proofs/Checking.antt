@@ -11,9 +11,9 @@ use types.Run.{OneOf, miss}
 use Rattle.refusal.specs.Answer.{result}
 use Rattle.requests.specs.Checks.{wrong, stringAt, dictionaryAt, listOfStringsAt, modeAt, integerAt, nonNegative}
 use Rattle.requests.specs.declared.request.Number.the-variants as N
-use Rattle.requests.specs.declared.view.View.{View}
-use Rattle.requests.specs.declared.view.View.the-variants as As
-use Rattle.requests.proofs.view.View as View′
+use Rattle.entries.specs.declared.view.View.{View}
+use Rattle.entries.specs.declared.view.View.the-variants as As
+use Rattle.entries.proofs.view.View as View′
 
 -- the view is of one of these kinds, by their order
 abbrev pub Kinds : List ℕ → View → Type 0

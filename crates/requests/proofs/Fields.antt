@@ -20,22 +20,23 @@ use Rattle.values.specs.declared.walk.Skipped.the-variants as S
 use Rattle.values.proofs.Placement.{placement}
 use Rattle.values.proofs.Steps as Steps
 use Rattle.values.proofs.Steps.{ValueTells, value-tells, entries-count}
-use Rattle.requests.specs.Private.Names.{nameOf}
-use Rattle.requests.specs.View.{span, seen, under}
+use Rattle.entries.specs.Numbering.{nameOf}
+use Rattle.entries.specs.View.{span, seen, under, Lookup}
 use Rattle.requests.specs.Checks.{wrong, stringIn, requiredText}
-use Rattle.requests.specs.Requests.{Lookup, hello, transaction, batch, asks, entriesOf, extra, run, none, one, three}
-use Rattle.requests.specs.Private.Walk.{stringFound, onText, entriesHead, entriesFound, notedFrom, nothing, entryIn, Fields}
-use Rattle.requests.specs.declared.request.Span.{Span}
-use Rattle.requests.specs.declared.request.Text.{Text}
-use Rattle.requests.specs.declared.request.Text.the-variants as T
+use Rattle.requests.specs.Requests.{hello, transaction, batch, asks, entriesOf, extra, run, none, one, three}
+use Rattle.entries.specs.Walk.{stringFound, onText, entriesHead, entriesFound, notedFrom, nothing, entryIn}
+use Rattle.requests.specs.Private.Fields.{Fields}
+use Rattle.entries.specs.declared.view.Span.{Span}
+use Rattle.entries.specs.declared.view.Text.{Text}
+use Rattle.entries.specs.declared.view.Text.the-variants as T
 use Rattle.requests.specs.declared.request.Transaction.{Transaction}
 use Rattle.requests.specs.declared.request.Request.{Request}
 use Rattle.requests.specs.declared.request.Request.the-variants as R
 use Rattle.requests.specs.declared.extra.Kind.{Kind}
 use Rattle.requests.specs.declared.extra.Kind.the-variants as K
-use Rattle.requests.specs.declared.entries.Entries.the-variants as E
-use Rattle.requests.proofs.Trees.{textOf, text-there}
-use Rattle.requests.proofs.Lookups.{noted-there}
+use Rattle.entries.specs.declared.Entries.the-variants as E
+use Rattle.entries.proofs.Trees.{textOf, text-there}
+use Rattle.entries.proofs.Lookups.{noted-there}
 
 clash : _≡_ {A = ℕ} 0 1 → ⊥
 clash e = omega arith

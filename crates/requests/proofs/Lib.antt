@@ -1,11 +1,4 @@
 pub mod Checking
-pub mod Naming
-pub mod Viewing
-pub mod Peeking
-pub mod Walking
-pub mod Extras
-pub mod Trees
-pub mod Lookups
 pub mod Fields
 pub mod Roots
 pub mod Places

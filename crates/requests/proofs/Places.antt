@@ -9,23 +9,23 @@ use Rattle.refusal.proofs.Answer.{placed-cond, anywhere}
 use Rattle.markers.specs.Value.{Value, null, boolean, integer, float, bytes, string, list, dictionary, structure, Items, no-items, item, Entries}
 use Rattle.values.specs.Decode.{decode}
 use Rattle.values.proofs.Places.{message-placed}
-use Rattle.requests.specs.Names as Name
-use Rattle.requests.specs.View.{seen, absent, under}
+use Rattle.entries.specs.Names as Name
+use Rattle.entries.specs.View.{seen, absent, under, Lookup}
 use Rattle.requests.specs.Checks.{wrong, stringAt, stringIn, dictionaryAt, dictionaryIn, unlessItem, listOfStringsAt, listOfStringsIn, unlessNone, modeAt, modeIn, integerAt, integerIn, inRange, requiredText, requiredNumber}
-use Rattle.requests.specs.Requests.{Lookup, hello, transaction, batch, asks, entriesOf, extra, run, none, one, three, tagged, requestIn, requestOf}
-use Rattle.requests.specs.declared.request.Text.{Text}
-use Rattle.requests.specs.declared.request.Text.the-variants as T
-use Rattle.requests.specs.declared.request.Place.{Place}
-use Rattle.requests.specs.declared.request.Place.the-variants as P
+use Rattle.requests.specs.Requests.{hello, transaction, batch, asks, entriesOf, extra, run, none, one, three, tagged, requestIn, requestOf}
+use Rattle.entries.specs.declared.view.Text.{Text}
+use Rattle.entries.specs.declared.view.Text.the-variants as T
+use Rattle.entries.specs.declared.view.Place.{Place}
+use Rattle.entries.specs.declared.view.Place.the-variants as P
 use Rattle.requests.specs.declared.request.Number.{Number}
 use Rattle.requests.specs.declared.request.Number.the-variants as N
-use Rattle.requests.specs.declared.request.Mode.{Mode}
-use Rattle.requests.specs.declared.request.Mode.the-variants as M
+use Rattle.entries.specs.declared.view.Mode.{Mode}
+use Rattle.entries.specs.declared.view.Mode.the-variants as M
 use Rattle.requests.specs.declared.request.Request.{Request}
 use Rattle.requests.specs.declared.request.Request.the-variants as R
-use Rattle.requests.specs.declared.view.View.{View}
-use Rattle.requests.specs.declared.view.View.the-variants as As
-use Rattle.requests.specs.declared.view.Entry.{Entry}
+use Rattle.entries.specs.declared.view.View.{View}
+use Rattle.entries.specs.declared.view.View.the-variants as As
+use Rattle.entries.specs.declared.view.Entry.{Entry}
 use Rattle.requests.specs.declared.extra.Kind.{Kind}
 use Rattle.requests.specs.declared.extra.Kind.the-variants as K
 use Rattle.requests.specs.declared.checks.Range.the-variants.{Timeout, Records, Stream}

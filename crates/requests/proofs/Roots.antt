@@ -16,9 +16,9 @@ use Rattle.values.specs.declared.head.Head.the-variants as H
 use Rattle.values.proofs.Answers.{told-value, told-refusal, decode-reads}
 use Rattle.values.proofs.Placement.{placement}
 use Rattle.requests.specs.Requests.{tagged, requestIn, requestOf, told}
-use Rattle.requests.specs.Private.Walk.{Answers}
+use Rattle.requests.specs.Private.Fields.{Answers}
 use Rattle.requests.specs.declared.request.Reading.{Reading}
-use Rattle.requests.proofs.Viewing.{Kinds}
+use Rattle.entries.proofs.Viewing.{Kinds}
 
 clash : _≡_ {A = ℕ} 0 1 → ⊥
 clash e = omega arith

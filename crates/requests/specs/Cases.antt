@@ -13,12 +13,12 @@ use Rattle.markers.specs.Marker.{markerOf, lookup}
 use Rattle.values.specs.Decode.{decode, messageOf, valueIn, valueAt, items, entries, keyAt, leafAt, leafValue, repeats}
 use Rattle.slices.specs.Equality.{same}
 use Rattle.markers.specs.Extents.{keyExtentAt, extentAt, leafExtent, containerExtent}
-use Rattle.requests.specs.View.{span, wrongIn, under}
+use Rattle.entries.specs.View.{span, wrongIn, under}
 use Rattle.requests.specs.Requests.{requestOf, hello, transaction, batch, run, tagged}
-use Rattle.requests.specs.declared.request.Text.the-variants as T
-use Rattle.requests.specs.declared.request.Place.the-variants as P
+use Rattle.entries.specs.declared.view.Text.the-variants as T
+use Rattle.entries.specs.declared.view.Place.the-variants as P
 use Rattle.requests.specs.declared.request.Number.the-variants as N
-use Rattle.requests.specs.declared.request.Mode.the-variants as M
+use Rattle.entries.specs.declared.view.Mode.the-variants as M
 use Rattle.requests.specs.declared.request.Request.{Request}
 use Rattle.requests.specs.declared.request.Request.the-variants as R
 

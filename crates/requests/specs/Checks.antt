@@ -5,19 +5,19 @@ use mathlib.Core.Bool.{Bool, true, false, cond}
 use lib.IntN.{ℤ, pos, negsuc}
 use Rattle.refusal.specs.Answer.{Answer, result, refused}
 use Rattle.refusal.specs.Numbers.{numberOf}
-use Rattle.requests.specs.declared.request.Span.{Span}
+use Rattle.entries.specs.declared.view.Span.{Span}
 use Rattle.requests.specs.declared.request.Fault.{Fault}
-use Rattle.requests.specs.declared.request.Text.{Text}
-use Rattle.requests.specs.declared.request.Text.the-variants as T
-use Rattle.requests.specs.declared.request.Place.{Place}
-use Rattle.requests.specs.declared.request.Place.the-variants as P
+use Rattle.entries.specs.declared.view.Text.{Text}
+use Rattle.entries.specs.declared.view.Text.the-variants as T
+use Rattle.entries.specs.declared.view.Place.{Place}
+use Rattle.entries.specs.declared.view.Place.the-variants as P
 use Rattle.requests.specs.declared.request.Number.{Number}
 use Rattle.requests.specs.declared.request.Number.the-variants as N
-use Rattle.requests.specs.declared.request.Mode.{Mode}
-use Rattle.requests.specs.declared.request.Mode.the-variants as M
-use Rattle.requests.specs.declared.view.View.{View}
-use Rattle.requests.specs.declared.view.View.the-variants as As
-use Rattle.requests.specs.declared.view.Entry.{Entry}
+use Rattle.entries.specs.declared.view.Mode.{Mode}
+use Rattle.entries.specs.declared.view.Mode.the-variants as M
+use Rattle.entries.specs.declared.view.View.{View}
+use Rattle.entries.specs.declared.view.View.the-variants as As
+use Rattle.entries.specs.declared.view.Entry.{Entry}
 use Rattle.requests.specs.declared.checks.Range.{Range}
 use Rattle.requests.specs.declared.checks.Range.the-variants.{Timeout, Records, Stream}
 use Rattle.bolt.specs.Ranges.{minusOneOr}

@@ -1,3 +1,2 @@
-pub mod Walk
-pub mod Names
 pub mod Checks
+pub mod Fields

@@ -1,12 +1,11 @@
 -- The request that a message is, or the refusal: document 01, "Requests". Assumes nothing.
 use Prim.Native.Nat.{ℕ}
 use mathlib.Core.Bool.{cond}
-use mathlib.Core.List.{List}
 use lib.Dec.{leb, eqb}
 use Rattle.refusal.specs.Answer.{Answer, result, refused, andThen}
 use Rattle.markers.specs.Value.{Value, null, boolean, integer, float, bytes, string, list, dictionary, structure, Items, no-items, item, Entries}
-use Rattle.requests.specs.Names as Name
-use Rattle.requests.specs.View.{seen, absent, under}
+use Rattle.entries.specs.Names as Name
+use Rattle.entries.specs.View.{Lookup, seen, absent, under}
 use Rattle.requests.specs.Checks.{wrong, stringIn, dictionaryIn, listOfStringsIn, modeIn, integerIn, inRange, requiredText, requiredNumber, orMinusOne, refusedBy}
 use Rattle.requests.specs.declared.request.Transaction.{Transaction}
 use Rattle.requests.specs.declared.request.Batch.{Batch}
@@ -14,16 +13,12 @@ use Rattle.requests.specs.declared.request.Request.{Request}
 use Rattle.requests.specs.declared.request.Request.the-variants as R
 use Rattle.requests.specs.declared.request.Reading.{Reading}
 use Rattle.requests.specs.declared.request.Reading.the-variants as Read
-use Rattle.requests.specs.declared.view.Entry.{Entry}
 use Rattle.requests.specs.declared.extra.Kind.{Kind}
 use Rattle.requests.specs.declared.extra.Kind.the-variants as K
 use Rattle.requests.specs.declared.checks.Range.the-variants.{Timeout, Records, Stream}
 use Rattle.bolt.specs.Requests.{tag, HELLO, GOODBYE, RESET, RUN, BEGIN, COMMIT, ROLLBACK, DISCARD, PULL}
 
 -- ---- the extra of each request: what it asks of the entry under each name, in checking order; `at` is the Dictionary's marker
-abbrev pub Lookup : Type 0
-Lookup = List ℕ → Entry
-
 -- "user_agent (required), scheme, principal, credentials, all String; routing Dictionary (from 4.1)"
 unfoldable pub hello : ℕ → ℕ → Lookup → Answer Request
 hello minor at e =

@@ -4,12 +4,12 @@ ghost use Rattle.refusal.specs.Answer.{refused};
 ghost use Rattle.requests.specs.Checks.{inRange, stringIn, dictionaryIn, integerIn, modeIn, listOfStringsIn};
 ghost use Rattle.requests.specs.Private.Checks.{toldText, toldPlace, toldNumber, toldMode, faultOf};
 use crate::request::Fault;
-use crate::request::Mode;
 use crate::request::Number;
-use crate::request::Place;
-use crate::request::Text;
-use crate::view::Entry;
-use crate::view::View;
+use entries::view::Entry;
+use entries::view::Mode;
+use entries::view::Place;
+use entries::view::Text;
+use entries::view::View;
 use refusal::Refusal;
 
 // What a check answers.

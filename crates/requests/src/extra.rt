@@ -6,22 +6,22 @@ ghost use lib.Dec.{leb};
 ghost use Rattle.requests.specs.Checks.{orMinusOne};
 ghost use Rattle.requests.specs.Requests.{hello as helloIn, transaction as transactionIn, batch as batchIn, asks, told};
 ghost use Rattle.requests.specs.Private.Checks.{toldTransaction, toldBatch};
-ghost use Rattle.requests.specs.Private.Walk.{entryIn};
+ghost use Rattle.entries.specs.Walk.{entryIn};
 use crate::checks;
 use crate::checks::CheckedMode;
 use crate::checks::CheckedNumber;
 use crate::checks::CheckedPlace;
 use crate::checks::CheckedText;
 use crate::checks::Range;
-use crate::names;
 use crate::request::Batch;
 use crate::request::Fault;
 use crate::request::Number;
 use crate::request::Reading;
 use crate::request::Request;
-use crate::request::Text;
 use crate::request::Transaction;
-use crate::view;
+use entries::names;
+use entries::view;
+use entries::view::Text;
 use handshake::version::Version;
 
 pub enum CheckedTransaction {

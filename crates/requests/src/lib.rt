@@ -1,8 +1,5 @@
 // Requests: from a message's bytes to a request with its fields. Document 01, "Requests".
 mod checks; // checks.rt: what an entry may hold
-mod entries; // entries.rt: the entries of a Dictionary, by their names
 mod extra; // extra.rt: what each request asks of its extra
-mod names; // names.rt: the known names
 pub mod read; // read.rt: from a message to the request
 pub mod request; // request.rt: requests as they are read
-mod view; // view.rt: values as far as a request looks at them

@@ -1,36 +1,15 @@
 // Requests as the server reads them. A String is given by where its content lies in the message, a List or a Dictionary by the offset
 // of its marker, and an Integer by its value.
+use entries::view::Mode;
+use entries::view::Place;
+use entries::view::Span;
+use entries::view::Text;
 use refusal::Refusal;
-
-// `size` bytes from `start` on.
-pub struct Span {
-    pub start: usize,
-    pub size: usize,
-}
-
-// A String that may be absent.
-pub enum Text {
-    Absent,
-    At(Span),
-}
-
-// The marker of a List or a Dictionary that may be absent.
-pub enum Place {
-    Absent,
-    At(usize),
-}
 
 // An Integer that may be absent.
 pub enum Number {
     Absent,
     Is(i64),
-}
-
-// How a transaction is going to access the data, where it says so.
-pub enum Mode {
-    Absent,
-    Read,
-    Write,
 }
 
 // What RUN and BEGIN say of their transaction.

@@ -19,7 +19,7 @@ use Rattle.values.specs.Decode.{messageOf, valueIn, valueAt, items, entries, ke
 use Rattle.markers.specs.Extents.{keyExtentAt, extentAt, leafExtent, containerExtent}
 use Rattle.markers.specs.Value.{count, countEntries}
 use Rattle.packing.specs.Packing.{pack, packItems, packEntries, packInteger, sizeHeader, narrowest, doublings}
-use Rattle.requests.specs.View.{wrongIn, under}
+use Rattle.entries.specs.View.{wrongIn, under}
 use Rattle.requests.specs.Requests.{hello, transaction, batch, run, tagged}
 use Rattle.connection.specs.Appendix.{newState, ignores, handsOver, handedSomewhere}
 use Rattle.connection.specs.Table.{namesOpen, isFull, turnOf as turnIn, successStreams, successSummary}

@@ -23,7 +23,7 @@ use Rattle.packing.specs.Packing.{packInteger, narrowest, doublings, sizeHeader
 use Rattle.packstream.specs.RoundTrip.{located, locatedItems, locatedEntries}
 use Rattle.connection.specs.declared.answers.Summary.{Summary}
 use Rattle.connection.specs.declared.answers.Summary.the-variants as S
-use Rattle.requests.specs.View.{wrongIn, under}
+use Rattle.entries.specs.View.{wrongIn, under}
 use Rattle.requests.specs.Requests.{requestOf, hello, transaction, batch, run, tagged}
 use Rattle.summaries.specs.Summaries.{structureOf, packSummary}
 use Rattle.requests.specs.declared.request.Request.{Request}

@@ -25,7 +25,7 @@ use Rattle.packing.proofs.Packing.{narrowest-most, length-tiny, length-integer,
 use Rattle.connection.specs.declared.answers.Failure.{Failure}
 use Rattle.connection.specs.declared.answers.Failure.the-variants as F
 use Rattle.connection.specs.declared.answers.Summary.the-variants as S
-use Rattle.requests.specs.Names.{qid}
+use Rattle.entries.specs.Names.{qid}
 use Rattle.summaries.specs.Summaries.{textOf, has-more, code, message, packSummary}
 
 -- ---- the forms

@@ -8,7 +8,7 @@ use Rattle.connection.specs.declared.answers.Failure.{Failure}
 use Rattle.connection.specs.declared.answers.Failure.the-variants as F
 use Rattle.connection.specs.declared.answers.Summary.{Summary}
 use Rattle.connection.specs.declared.answers.Summary.the-variants as S
-use Rattle.requests.specs.Names.{qid}
+use Rattle.entries.specs.Names.{qid}
 
 -- "has_more"
 abbrev pub has-more : List ℕ

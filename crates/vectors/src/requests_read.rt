@@ -10,15 +10,15 @@
 use crate::answers;
 use crate::wire;
 use console::output;
+use entries::view::Mode;
+use entries::view::Place;
+use entries::view::Span;
+use entries::view::Text;
 use handshake::version::Proposal;
 use requests::request::Batch;
-use requests::request::Mode;
 use requests::request::Number;
-use requests::request::Place;
 use requests::request::Reading;
 use requests::request::Request;
-use requests::request::Span;
-use requests::request::Text;
 use requests::request::Transaction;
 
 fn show_span(span: Span) {

@@ -3,10 +3,10 @@ use Prim.Native.Nat.{ℕ}
 use Rattle.refusal.specs.Answer.{Answer, result}
 use Rattle.refusal.specs.declared.Refusal.the-variants.{InvalidField}
 use Rattle.requests.specs.declared.request.Fault.{Fault}
-use Rattle.requests.specs.declared.request.Text.{Text}
-use Rattle.requests.specs.declared.request.Place.{Place}
+use Rattle.entries.specs.declared.view.Text.{Text}
+use Rattle.entries.specs.declared.view.Place.{Place}
 use Rattle.requests.specs.declared.request.Number.{Number}
-use Rattle.requests.specs.declared.request.Mode.{Mode}
+use Rattle.entries.specs.declared.view.Mode.{Mode}
 use Rattle.requests.specs.declared.checks.CheckedText.{CheckedText}
 use Rattle.requests.specs.declared.checks.CheckedText.the-variants as CT
 use Rattle.requests.specs.declared.checks.CheckedPlace.{CheckedPlace}

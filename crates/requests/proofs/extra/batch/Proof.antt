@@ -4,14 +4,14 @@ use native.Mathlib.Omega.{arith}
 use mir.Syntax.{w64}
 use mir.Facts.{toZ-ofZ}
 use borrow.Author.Needs.{sfits-of, needs}
-use Rattle.requests.specs.Names as Name
+use Rattle.entries.specs.Names as Name
 use Rattle.requests.specs.Checks.{integerIn, inRange, refusedBy}
 use Rattle.requests.specs.Private.Checks.{toldNumber}
 use Rattle.requests.specs.Requests.{batch}
-use Rattle.requests.specs.Private.Walk.{entryIn}
+use Rattle.entries.specs.Walk.{entryIn}
 use Rattle.requests.specs.declared.checks.Range.the-variants.{Records, Stream}
 use Rattle.requests.specs.declared.checks.CheckedNumber.{CheckedNumber}
-use Rattle.requests.proofs.Extras.{entry-is, checked}
+use Rattle.entries.proofs.Extras.{entry-is, checked}
 use Rattle.requests.proofs.extra.batch.Statement.{statement}
 use Rattle.requests.proofs.extra.batch.Tie as tie
 

@@ -5,15 +5,15 @@ use native.Mathlib.Omega.{arith}
 use lib.Dec.{leb}
 use lib.ListN.{getD}
 use borrow.Author.Needs.{needs}
-use Rattle.requests.specs.Names as Name
-use Rattle.requests.specs.View.{absent}
+use Rattle.entries.specs.Names as Name
+use Rattle.entries.specs.View.{absent}
 use Rattle.requests.specs.Checks.{stringIn, dictionaryIn, refusedBy}
 use Rattle.requests.specs.Private.Checks.{toldText, toldPlace}
 use Rattle.requests.specs.Requests.{hello}
-use Rattle.requests.specs.Private.Walk.{entryAt, entryIn}
+use Rattle.entries.specs.Walk.{entryAt, entryIn}
 use Rattle.requests.specs.declared.checks.CheckedText.{CheckedText}
 use Rattle.requests.specs.declared.checks.CheckedPlace.{CheckedPlace}
-use Rattle.requests.proofs.Extras.{entry-is, entry-since, checked}
+use Rattle.entries.proofs.Extras.{entry-is, entry-since, checked}
 use Rattle.requests.proofs.extra.hello.Statement.{statement}
 use Rattle.requests.proofs.extra.hello.Tie as tie
 

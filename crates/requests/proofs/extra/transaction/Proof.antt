@@ -2,17 +2,17 @@
 use mathlib.Core.Path.{_≡_, _∙_}
 use native.Mathlib.Omega.{arith}
 use borrow.Author.Needs.{needs}
-use Rattle.requests.specs.Names as Name
+use Rattle.entries.specs.Names as Name
 use Rattle.requests.specs.Checks.{stringIn, dictionaryIn, listOfStringsIn, modeIn, integerIn, inRange}
 use Rattle.requests.specs.Private.Checks.{toldText, toldPlace, toldNumber, toldMode}
 use Rattle.requests.specs.Requests.{transaction}
-use Rattle.requests.specs.Private.Walk.{entryIn}
+use Rattle.entries.specs.Walk.{entryIn}
 use Rattle.requests.specs.declared.checks.Range.the-variants.{Timeout}
 use Rattle.requests.specs.declared.checks.CheckedText.{CheckedText}
 use Rattle.requests.specs.declared.checks.CheckedPlace.{CheckedPlace}
 use Rattle.requests.specs.declared.checks.CheckedNumber.{CheckedNumber}
 use Rattle.requests.specs.declared.checks.CheckedMode.{CheckedMode}
-use Rattle.requests.proofs.Extras.{entry-is, checked}
+use Rattle.entries.proofs.Extras.{entry-is, checked}
 use Rattle.requests.proofs.extra.transaction.Statement.{statement}
 use Rattle.requests.proofs.extra.transaction.Tie as tie
 

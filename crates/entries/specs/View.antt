@@ -1,0 +1,66 @@
+-- Values and entries as far as a request looks at them: document 01, "Requests". Assumes nothing.
+use Prim.Native.Nat.{ℕ}
+use mathlib.Core.Bool.{Bool, true, false, cond}
+use mathlib.Core.List.{List, [], _∷_}
+use lib.ListN.{length}
+use Rattle.markers.specs.Value.{Value, null, boolean, integer, float, bytes, string, list, dictionary, structure, Items, no-items, item, Entries, no-entries, entry}
+use Rattle.slices.specs.Equality.{same}
+use Rattle.entries.specs.declared.view.Span.{Span}
+use Rattle.entries.specs.declared.view.Place.{Place}
+use Rattle.entries.specs.declared.view.Place.the-variants as P
+use Rattle.entries.specs.declared.view.Mode.{Mode}
+use Rattle.entries.specs.declared.view.Mode.the-variants as M
+use Rattle.entries.specs.declared.view.View.{View}
+use Rattle.entries.specs.declared.view.View.the-variants as As
+use Rattle.entries.specs.declared.view.Entry.{Entry}
+
+abbrev pub isString : Value → Bool
+isString null = false
+isString (boolean b) = false
+isString (integer z) = false
+isString (float bits) = false
+isString (bytes start content) = false
+isString (string start content) = true
+isString (list vs) = false
+isString (dictionary es) = false
+isString (structure tag vs) = false
+
+-- "in a List, the first wrong item's" marker, where it is to be a List of Strings
+unfoldable pub wrongIn : Items → Place
+wrongIn no-items = P.Absent
+wrongIn (item at v vs) = cond (isString v) (wrongIn vs) (P.At at)
+
+-- "r" or "w"
+abbrev pub modeNamed : List ℕ → Mode
+modeNamed content = cond (same content (0x72 ∷ [])) M.Read (cond (same content (0x77 ∷ [])) M.Write M.Absent)
+
+-- n bytes from p on
+abbrev pub span : ℕ → ℕ → Span
+span p n = record { start = p; size = n }
+
+abbrev pub viewOf : Value → View
+viewOf null = As.Absent
+viewOf (boolean b) = As.Other
+viewOf (integer z) = As.Integer z
+viewOf (float bits) = As.Other
+viewOf (bytes start content) = As.Other
+viewOf (string start content) = As.String (span start (length content)) (modeNamed content)
+viewOf (list vs) = As.List (wrongIn vs)
+viewOf (dictionary es) = As.Dictionary
+viewOf (structure tag vs) = As.Other
+
+-- the value whose marker is at `place`
+abbrev pub seen : ℕ → Value → Entry
+seen place v = record { place = place; view = viewOf v }
+
+abbrev pub absent : Entry
+absent = record { place = 0; view = As.Absent }
+
+-- what stands under a name; the others are passed over
+unfoldable pub under : Entries → List ℕ → Entry
+under no-entries name = absent
+under (entry at start key place v es) name = cond (same key name) (seen place v) (under es name)
+
+-- what stands under each name
+abbrev pub Lookup : Type 0
+Lookup = List ℕ → Entry
