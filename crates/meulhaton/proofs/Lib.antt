@@ -1,3 +1,4 @@
+pub mod Answering
 pub mod Arrays
 pub mod Bits
 pub mod Choices
