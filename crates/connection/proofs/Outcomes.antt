@@ -16,6 +16,7 @@ use Rattle.connection.specs.declared.answers.Outcome.{Outcome}
 use Rattle.connection.specs.declared.answers.Outcome.the-variants.{Success}
 use Rattle.connection.specs.declared.answers.Reported.the-variants.{Answered}
 use Rattle.connection.specs.declared.answers.Summary.{Summary}
+use Rattle.connection.specs.declared.answers.AfterReport.{AfterReport}
 use Rattle.connection.specs.declared.answers.Summary.the-variants as S
 use Rattle.connection.specs.Requests.{isKind, kindOf, inState, inTransaction, is, fetches, asked, named}
 use Rattle.bolt.specs.Requests.{Kind, HELLO, RUN, BEGIN}
@@ -51,13 +52,13 @@ pub state-by : (s : State) (r q : Request) (left : ℕ) (b : State) → r ≡ q 
 state-by s r q left b e f h = f (subst (λ (x : Request). handsOver s (kindOf x) ≡ true) e h) ∙ ap (λ (x : Request). newState s (kindOf x) (response Success x left)) (sym e)
 
 -- ---- the whole outcome
-pub settle-is : (k : Control) (q : Queue) (r : Request) (o : Outcome) (summary : Summary) (after : Streams) (new : State) {b : Bool}
-    → after ≡ laid (k .streams) (streamsAfter o (k .state) (openOf (k .streams)) r) → new ≡ newState (k .state) (kindOf r) (response o r (after .count)) → inState new Defunct ≡ b
-    → record { connection = answeredIn k q new after (cond b 0 (k .waiting - 1)); answer = Answered summary (k .sent + 1) } ≡ settledIn k q r o summary
-settle-is k q r o summary after new e f g =
+pub settle-is : (k : Control) (q : Queue) (r : Request) (o : Outcome) (summary : Summary) {after : Streams} {new : State} {b : Bool} {x : AfterReport}
+    → x ≡ record { connection = answeredIn k q new after (cond b 0 (k .waiting - 1)); answer = Answered summary (k .sent + 1) }
+    → after ≡ laid (k .streams) (streamsAfter o (k .state) (openOf (k .streams)) r) → new ≡ newState (k .state) (kindOf r) (response o r (after .count)) → inState new Defunct ≡ b → x ≡ settledIn k q r o summary
+settle-is k q r o summary d e f g =
     let n = f ∙ ap (λ (v : Streams). newState (k .state) (kindOf r) (response o r (v .count))) e in
     let left = ap (λ (t : Bool). cond t 0 (k .waiting - 1)) (sym g ∙ ap (λ (s : State). inState s Defunct) n) in
-    λ i. record { connection = answeredIn k q (n i) (e i) (left i); answer = Answered summary (k .sent + 1) }
+    d ∙ (λ i. record { connection = answeredIn k q (n i) (e i) (left i); answer = Answered summary (k .sent + 1) })
 
 module _ (k : Control) (q : Queue) (fits : Fits k q) (some : 0 < k .waiting) (o : Outcome) where
   abbrev first : Request

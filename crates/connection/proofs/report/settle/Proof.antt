@@ -18,7 +18,7 @@ sum-up-requires c κs = (omega arith, c .before .before .before .before .before 
 returns : tie.Need-returns
 returns c =
     let a = c .before .before .before .before .before .before .args in
-    c .sum-up .ensures ∙ settle-is (a .control) (a .queue) (a .first) (a .outcome) (a .summary) (c .before .before .before .before .streams-after .result) (c .before .before .before .new-state .result) (c .before .before .before .before .streams-after .ensures) (c .before .before .before .new-state .ensures) (sym (c .before .before .is-in .ensures) ∙ c .before .if1 .taken)
+    settle-is (a .control) (a .queue) (a .first) (a .outcome) (a .summary) (c .sum-up .ensures) (c .before .before .before .before .streams-after .ensures) (c .before .before .before .new-state .ensures) (sym (c .before .before .is-in .ensures) ∙ c .before .if1 .taken)
 
 sum-up-requires-2 : tie.Need-sum-up-requires-2
 sum-up-requires-2 c κs = (omega (arith, c .before .before .before .before .before .before .pre .waits .short, c .before .before .before .before .before .before .pre .waits .some), c .before .before .before .before .before .before .pre .waits .below)
@@ -26,7 +26,7 @@ sum-up-requires-2 c κs = (omega (arith, c .before .before .before .before .befo
 returns-2 : tie.Need-returns-2
 returns-2 c =
     let a = c .before .before .before .before .before .before .before .args in
-    c .sum-up2 .ensures ∙ settle-is (a .control) (a .queue) (a .first) (a .outcome) (a .summary) (c .before .before .before .before .before .streams-after .result) (c .before .before .before .before .new-state .result) (c .before .before .before .before .before .streams-after .ensures) (c .before .before .before .before .new-state .ensures) (sym (c .before .before .before .is-in .ensures) ∙ c .before .before .if1 .left)
+    settle-is (a .control) (a .queue) (a .first) (a .outcome) (a .summary) (c .sum-up2 .ensures) (c .before .before .before .before .before .streams-after .ensures) (c .before .before .before .before .new-state .ensures) (sym (c .before .before .before .is-in .ensures) ∙ c .before .before .if1 .left)
 
 pub settle-spec : {M : Type 1} → statement M
 settle-spec =
