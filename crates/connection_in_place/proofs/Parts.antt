@@ -7,7 +7,7 @@ use Rattle.connection.proofs.record.Control as K
 use Rattle.connection.proofs.record.Control.Laws as K′
 use Rattle.connection.proofs.record.Queue as Q
 use Rattle.connection.proofs.record.Queue.Laws as Q′
-use Rattle.refusal.proofs.InPlace.{Plain, of-field, Two}
+use Rattle.in_place.proofs.InPlace.{Plain, of-field, Two}
 
 abbrev pub connection : Plain
 connection = of-field T.the-field T′.the-field-laws T′.the-field-plain T′.the-field-copy refl

@@ -1,7 +1,7 @@
 -- The image, and what a call on an image by value gives, as `InPlace` takes them. Assumes nothing.
 use mathlib.Core.Path.{refl}
 use denote.Struct.Laws.{owed}
-use Rattle.refusal.proofs.InPlace.{Plain, of-field, Two}
+use Rattle.in_place.proofs.InPlace.{Plain, of-field, Two}
 use Rattle.meulhaton.proofs.image.Image as T
 use Rattle.meulhaton.proofs.image.Image.Laws as T′
 use Rattle.meulhaton.proofs.replies.Answered as U

@@ -9,7 +9,7 @@ use Rattle.connection.proofs.answers.Closing as R
 use Rattle.connection.proofs.answers.Closing.Laws as R′
 use Rattle.connection.proofs.close.step.Symbol as step
 use Rattle.connection.proofs.close.step.Met as step-thm
-use Rattle.refusal.proofs.InPlace.{Plain, of-field, Two, Says, apart, apart-walk, in-place}
+use Rattle.in_place.proofs.InPlace.{Plain, of-field, Two, Says, apart, apart-walk, in-place}
 use Rattle.connection_in_place.proofs.Parts.{connection, control, queue, parts}
 use Rattle.connection_in_place.proofs.close.Key
 use Rattle.connection_in_place.proofs.close.Statement as stated

@@ -2,7 +2,7 @@
 use mathlib.Core.Path.{_≡_, refl, ap}
 use Rattle.meulhaton.specs.Calls.{arriveOn}
 use Rattle.meulhaton.specs.declared.replies.Answered.{Answered}
-use Rattle.refusal.proofs.InPlace.{Plain, of-field, Says, entire-with, entire-with-walk, in-place}
+use Rattle.in_place.proofs.InPlace.{Plain, of-field, Says, entire-with, entire-with-walk, in-place}
 use Rattle.meulhaton.proofs.Answering.{image, answered, reply, gave}
 use Rattle.meulhaton.proofs.image.RequestImage as X
 use Rattle.meulhaton.proofs.image.RequestImage.Laws as X′
