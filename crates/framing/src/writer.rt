@@ -3,6 +3,7 @@ ghost use mathlib.Core.Path.{_≡_};
 ghost use Prim.Native.Nat.{_+_, _≤_, _<_};
 ghost use lib.ListN.{length};
 ghost use lib.Seq.{sets};
+ghost use Rattle.bolt.specs.Limits.{mostBytes};
 ghost use Rattle.slices.specs.Parts.{part, front};
 ghost use Rattle.refusal.specs.Answer.{counted, left};
 ghost use Rattle.framing.specs.Chunking.{chunkOf, chunked, end, writing, told};
@@ -17,7 +18,7 @@ pub enum Written {
 
 // How many bytes a message of `length` takes in chunks of `chunk_size`.
 fn chunked_length(message: &[u8], chunk_size: usize) -> usize
-    requires { ⌜ (0 < «chunk_size») × (length (now message) ≤ 16384) ⌝ }
+    requires { ⌜ (0 < «chunk_size») × (length (now message) ≤ mostBytes) ⌝ }
     ensures { λ r. ⌜ r ≡ length (chunked «chunk_size» (now (message .entry))) ⌝ }
 {
     let n = message.len();

@@ -2,6 +2,7 @@
 ghost use mathlib.Core.Path.{_≡_};
 ghost use Prim.Native.Nat.{_≤_};
 ghost use lib.ListN.{length};
+ghost use Rattle.bolt.specs.Limits.{mostBytes};
 ghost use Rattle.values.specs.Decode.{valueAt, valueIn, decode};
 ghost use Rattle.values.specs.Reading.{allowed, told, tellMessage, tellValue};
 ghost use Rattle.values.specs.Private.Steps.{stepOf};
@@ -42,7 +43,7 @@ fn read_short(message: &[u8], at: usize, depth: usize) -> Step
 }
 
 fn read_long(message: &[u8], at: usize, depth: usize) -> Step
-    requires { ⌜ length (now message) ≤ 16384 ⌝ }
+    requires { ⌜ length (now message) ≤ mostBytes ⌝ }
     ensures { λ r. ⌜ r ≡ stepOf (valueAt (now (message .entry)) depth at) ⌝ }
 {
     let mut scratch = [0u16; MOST_BYTES];
@@ -51,7 +52,7 @@ fn read_long(message: &[u8], at: usize, depth: usize) -> Step
 
 // Reads through the value at `at`, with room for `depth` open containers.
 fn read_through(message: &[u8], at: usize, depth: usize) -> Step
-    requires { ⌜ length (now message) ≤ 16384 ⌝ }
+    requires { ⌜ length (now message) ≤ mostBytes ⌝ }
     ensures { λ r. ⌜ r ≡ stepOf (valueAt (now (message .entry)) depth at) ⌝ }
 {
     if message.len() <= SHORT {

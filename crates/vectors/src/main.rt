@@ -5,15 +5,15 @@
 //     01  handshake        input                                00 version (4)
 //     02  read frame       minor (1), room (4), input           00 length (4) consumed (4) message, or 01 consumed (4): a keep-alive
 //     03  write chunks     chunk size (4), room (4), message    00 output
-//     04  read value       message                              00 and the value, see values.rt
-//     05  read request     minor (1), message                   00 tag (1) and what it asks for, see requests.rt
+//     04  read value       message                              00 and the value, see values_read.rt
+//     05  read request     minor (1), message                   00 tag (1) and what it asks for, see requests_read.rt
 //     06  pack Boolean     room (4), 00 or 01                   00 bytes
 //     07  pack Integer     room (4), value (8)                  00 bytes
 //     08  pack String      room (4), bytes                      00 bytes
-//     09  pack summary     room (4), summary                    00 bytes; the summaries are in summaries.rt
+//     09  pack summary     room (4), summary                    00 bytes; the summaries are in summaries_packed.rt
 //     19  read all values  message                              00 and each value that the message holds, by the order of their markers
 //     1A  pack at offset   what (1), at (4), room (4), value    00 end (4) or a refusal, and the buffer, of which each byte was EE, see
-//                                                               packing.rt
+//                                                               values_packed.rt
 //     1B  summary length   summary                              00 length (4)
 //
 // A refusal is FF, its number (1), its place (4). A line that is no vector gives FE. A line that begins with # names the group of those
