@@ -6,6 +6,7 @@ use connection::answers::Closing;
 use connection::answers::Reported;
 use connection::answers::Summary;
 use connection::answers::Taken;
+use connection::record::Connection;
 use connection::record::Request;
 use console::output;
 use packing::Packed;
@@ -13,6 +14,12 @@ use refusal::Refusal;
 
 // The longest summary has 60 bytes.
 const ROOM: usize = 64;
+
+// A line that is no operation changes nothing.
+pub fn no_operation(connection: Connection) -> Connection {
+    output::byte(0xFE);
+    connection
+}
 
 // FF, the refusal's number, and place 0.
 fn refused(why: Refusal) {

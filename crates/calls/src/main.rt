@@ -33,10 +33,10 @@ const NAME_MARK: u8 = b'#';
 // Performs the operation that a line's first byte names on the bytes after it. The line's bytes are the first `size`.
 fn run_bytes(bytes: &[u8], size: usize, connection: Connection) -> Connection {
     if size == 0 {
-        return operations::no_operation(connection);
+        return answers::no_operation(connection);
     }
     if bytes.len() < size {
-        return operations::no_operation(connection);
+        return answers::no_operation(connection);
     }
     operations::perform(bytes[0], &bytes[1..size], connection)
 }
@@ -48,7 +48,7 @@ fn run_line(line: &[u8], bytes: &mut [u8], connection: Connection) -> Connection
     }
     match hex::decode(line, bytes) {
         Decoded::Bytes(n) => run_bytes(bytes, n, connection),
-        Decoded::Refused(_) => operations::no_operation(connection),
+        Decoded::Refused(_) => answers::no_operation(connection),
     }
 }
 

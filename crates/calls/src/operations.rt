@@ -7,7 +7,6 @@ use crate::set;
 use crate::show;
 use connection::answers::Outcome;
 use connection::record::Connection;
-use console::output;
 
 // The last outcome; greater bytes name none.
 const LAST_OUTCOME: u8 = 0x02;
@@ -20,15 +19,9 @@ fn outcome_at(operands: &[u8], at: usize) -> Outcome {
     }
 }
 
-// A line that is no operation changes nothing.
-pub fn no_operation(connection: Connection) -> Connection {
-    output::byte(0xFE);
-    connection
-}
-
 fn arrive(operands: &[u8], connection: Connection) -> Connection {
     if operands.len() != requests::size_at(operands, 0) {
-        return no_operation(connection);
+        return answers::no_operation(connection);
     }
     let after = connection::arrive::arrive(connection, requests::request_at(operands, 0));
     let answer = after.answer;
@@ -47,7 +40,7 @@ fn take(connection: Connection) -> Connection {
 
 fn report(operands: &[u8], connection: Connection) -> Connection {
     if operands.len() != 1 || LAST_OUTCOME < operands::byte_at(operands, 0) {
-        return no_operation(connection);
+        return answers::no_operation(connection);
     }
     let after = connection::report::report(connection, outcome_at(operands, 0));
     let answer = after.answer;
@@ -72,7 +65,7 @@ fn converse(operands: &[u8], connection: Connection) -> Connection {
     let are_outcomes = operands::byte_at(operands, first_end) <= LAST_OUTCOME
         && operands::byte_at(operands, second_end) <= LAST_OUTCOME;
     if operands.len() != second_end + 1 || !are_outcomes {
-        return no_operation(connection);
+        return answers::no_operation(connection);
     }
     let heard = conversation::hold(
         connection::record::fresh(),
@@ -92,7 +85,7 @@ fn perform_with(operation: u8, operands: &[u8], connection: Connection) -> Conne
         0x13 => report(operands, connection),
         0x16 => set::set(operands, connection),
         0x18 => converse(operands, connection),
-        _ => no_operation(connection),
+        _ => answers::no_operation(connection),
     }
 }
 
@@ -106,6 +99,6 @@ pub fn perform(operation: u8, operands: &[u8], connection: Connection) -> Connec
         0x12 => take(connection),
         0x14 => close(connection),
         0x15 => show::show(connection),
-        _ => no_operation(connection),
+        _ => answers::no_operation(connection),
     }
 }

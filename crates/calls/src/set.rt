@@ -2,8 +2,8 @@
 // Counts up to 255 are set as they are; the first 32 requests and 8 numbers follow them, and the places behind these are as a fresh
 // record has them.
 ghost use Prim.Native.Nat.{_≤_};
+use crate::answers;
 use crate::operands;
-use crate::operations;
 use crate::requests;
 use crate::show;
 use crate::states;
@@ -103,7 +103,7 @@ pub fn set(operands: &[u8], connection: Connection) -> Connection {
     let is_boolean = operands::byte_at(operands, 1) <= 1;
     let is_whole = operands.len() == open_at + 25 + 8 * open;
     if !(is_state && is_boolean && is_whole) {
-        return operations::no_operation(connection);
+        return answers::no_operation(connection);
     }
     output::byte(0x00);
     let control = control_of(operands, open_at, open);

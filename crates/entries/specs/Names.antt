@@ -40,5 +40,3 @@ n = 0x6E ∷ []
 
 abbrev pub qid : List ℕ
 qid = 0x71 ∷ 0x69 ∷ 0x64 ∷ []
-
--- ---- the code's table

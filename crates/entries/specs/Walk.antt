@@ -1,5 +1,5 @@
 -- What the request reader makes of a message that was read already, by peeking at offsets and skipping values. Where the value that was
--- read lies there (packstream's specs/Placement.antt), it is what the value's tree says. Assumes nothing.
+-- read lies there (values' specs/Private/Placement.antt), it is what the value's tree says. Assumes nothing.
 use Prim.Native.Nat.{ℕ, zero, suc, _+_}
 use mathlib.Core.Bool.{cond}
 use mathlib.Core.List.{List}

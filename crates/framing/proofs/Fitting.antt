@@ -1,4 +1,4 @@
--- What was read or written lies inside the buffer that was lent for it. Assumes nothing.
+-- What was read lies inside the buffer that was lent for it. Assumes nothing.
 use mathlib.Core.Path.{_≡_, refl}
 use mathlib.Core.Bool.{Bool, true, false, cond}
 use mathlib.Core.List.{List, [], _∷_}
@@ -79,5 +79,3 @@ module _ (alive : Bool) (room : ℕ) where
       by (result (message m n)) k e = let z : size ≡ length m = cc in omega arith
       by (result (keep-alive n)) k e = absurd (clash (cc))
       by (refused number place) k e = absurd (clash (cc))
-
--- ---- the writer

@@ -110,7 +110,7 @@ fn by_tag(message: &[u8], version: Version, tag: u8, at: usize, fields: usize) -
     }
 }
 
-// Reads a message of this version as a request. Refuses as `packstream` refuses the value, then with 14 where it is no known request
+// Reads a message of this version as a request. Refuses as `values` refuses the value, then with 14 where it is no known request
 // structure, with 15 where it has another number of fields, and with 16 at the first field or entry that is wrong.
 pub fn read_request(message: &[u8], version: Version) -> Reading
     ensures { λ r. ⌜ told r ≡ requestOf (version .minor) (decode (now (message .entry))) ⌝ }

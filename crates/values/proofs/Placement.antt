@@ -1,4 +1,4 @@
--- Where the parts of a value that was read lie, as `specs/Placement.antt` states it. Assumes nothing.
+-- Where the parts of a value that was read lie, as `specs/Private/Placement.antt` states it. Assumes nothing.
 use mathlib.Core.Path.{_≡_, refl, sym, ap, _∙_, subst}
 use mathlib.Core.List.{List, [], _∷_}
 use Prim.Native.Nat.{ℕ, zero, suc, _+_, _-_, _*_, _≤_}

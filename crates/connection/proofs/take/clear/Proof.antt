@@ -4,7 +4,7 @@ use mathlib.Core.Path.{ap, _∙_}
 use Prim.Native.Nat.{_+_, _-_}
 use Rattle.connection.specs.declared.record.Streams.{Streams}
 use Rattle.connection.specs.declared.answers.Taken.the-variants.{Answered}
-use Rattle.connection.specs.Parts.{answeredIn}
+use Rattle.connection.specs.Private.Parts.{answeredIn}
 use Rattle.connection.proofs.take.clear.Statement.{statement}
 use Rattle.connection.proofs.take.clear.Tie as tie
 
