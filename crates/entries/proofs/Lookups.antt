@@ -1,13 +1,12 @@
 -- What the walk of a Dictionary notes is what its entries say: each name comes at most once. Assumes nothing.
 use mathlib.Core.Path.{_≡_, refl, sym, ap, _∙_, subst}
-use mathlib.Core.Bool.{Bool, true, false, cond, and-eq-true-iff, true≢false, false≢true}
+use mathlib.Core.Bool.{Bool, true, false, cond, true≢false, false≢true}
 use mathlib.Core.List.{List, [], _∷_}
 use Prim.Native.Nat.{ℕ, zero, suc, _≤_, _<_}
 use native.Mathlib.Omega.{arith}
-use lib.Dec.{eqb}
 use lib.ListN.{length, getD, length-set, getD-replicate}
 use lib.Seq.{getD-set-same, getD-set-other}
-use borrow.Author.Tests.{eqb-true, ne-eqb}
+use borrow.Author.Tests.{ne-eqb}
 use Rattle.slices.specs.Parts.{part}
 use Rattle.markers.specs.Value.{Value, Entries, no-entries, entry, countEntries}
 use Rattle.values.specs.Decode.{Parse, parsed, repeats, KeyText, keyAt, entries, valueAt}
@@ -26,17 +25,7 @@ use Rattle.entries.proofs.Naming.{index-of-name, name-of-index}
 use Rattle.entries.proofs.Peeking.{string-within}
 use Rattle.entries.proofs.Trees.{view-there}
 use Rattle.entries.proofs.Extras.{entry-is}
-
--- ---- equal contents are equal
-same-equal : (a b : List ℕ) → same a b ≡ true → a ≡ b
-unfolding same
-same-equal [] [] e = refl
-same-equal [] (y ∷ b) e = absurd (false≢true e)
-same-equal (x ∷ a) [] e = absurd (false≢true e)
-same-equal (x ∷ a) (y ∷ b) e =
-    let both = and-eq-true-iff (eqb x y) (same a b) .0 e in
-    let h : x ≡ y = eqb-true x y (both .0) in
-    rw (h, same-equal a b (both .1))
+use Rattle.slices.proofs.Equality.{same-equal}
 
 -- ---- the place of the value under a name, or else d
 unfoldable pub placeOf : Entries → List ℕ → ℕ → ℕ

@@ -9,48 +9,13 @@ use native.Mathlib.Omega.{arith}
 use lib.Dec.{leb, eqb}
 use lib.ListN.{length, getD, drop, length-drop}
 use lib.Seq.{drop-cons, drop-drop, getD-drop}
-use borrow.Author.Tests.{eq-eqb, ne-eqb, eqb-true, eqb-false, leb-true}
+use borrow.Author.Tests.{eqb-true, eqb-false, leb-true}
 use Rattle.slices.specs.Parts.{part}
 use Rattle.slices.proofs.Below.{below}
-use Rattle.slices.proofs.Parts.{part-cons}
 use Rattle.slices.specs.Equality.{same}
 use Rattle.markers.proofs.Markers.{tabulate, agree}
-use Rattle.values.proofs.KeySearch.{same-length}
+use Rattle.slices.proofs.Equality.{same-length}
 use Rattle.entries.specs.Numbering.{names, nameOf, indexOf}
-
--- ---- parts of two lists
-left-cons : (s : List ℕ) (p n i : ℕ) → i < n → p + n ≤ length s → part s (p + i) (n - i) ≡ getD s (p + i) 0 ∷ part s (p + (i + 1)) (n - (i + 1))
-left-cons s p n i h l =
-    let e : n - i ≡ suc (n - (i + 1)) = omega arith in
-    let f : p + (i + 1) ≡ p + i + 1 = omega arith in
-    let g : p + i < length s = omega arith in
-    rw (e, f) (part-cons s (p + i) (n - (i + 1)) g)
-
--- what is left of them decides as the whole of them does
-abbrev pub Comparing : List ℕ → ℕ → List ℕ → ℕ → ℕ → ℕ → Type 0
-Comparing s a t b n i = same (part s a n) (part t b n) ≡ same (part s (a + i) (n - i)) (part t (b + i) (n - i))
-
-module _ (s : List ℕ) (a : ℕ) (t : List ℕ) (b n : ℕ) where
-  pub comparing-none : Comparing s a t b n 0
-  comparing-none =
-      let e : n - 0 ≡ n = omega arith in
-      let f : a + 0 ≡ a = omega arith in
-      let g : b + 0 ≡ b = omega arith in
-      rw (e, f, g)
-
-  module _ (i : ℕ) (so-far : Comparing s a t b n i) where
-    pub all-equal : n ≤ i → same (part s a n) (part t b n) ≡ true
-    unfolding same
-    all-equal h = let z : n - i ≡ 0 = omega arith in so-far ∙ rw z
-
-    module _ (h : i < n) (ka : a + n ≤ length s) (kb : b + n ≤ length t) where
-      pub one-equal : getD s (a + i) 0 ≡ getD t (b + i) 0 → Comparing s a t b n (i + 1)
-      unfolding same
-      one-equal e = so-far ∙ rw (left-cons s a n i h ka, left-cons t b n i h kb, eq-eqb (getD s (a + i) 0) (getD t (b + i) 0) e)
-
-      pub one-differs : (getD s (a + i) 0 ≡ getD t (b + i) 0 → ⊥) → same (part s a n) (part t b n) ≡ false
-      unfolding same
-      one-differs e = so-far ∙ rw (left-cons s a n i h ka, left-cons t b n i h kb, ne-eqb (getD s (a + i) 0) (getD t (b + i) 0) e)
 
 -- ---- the bytes of the names
 -- all of them, a space behind each

@@ -16,7 +16,7 @@ use Rattle.values.specs.declared.head.Head.{Head}
 use Rattle.values.specs.declared.head.Head.the-variants as H
 use Rattle.values.specs.declared.walk.Peeked.the-variants as Pk
 use Rattle.values.proofs.head.Head as Head′
-use Rattle.values.proofs.KeySearch.{same-length}
+use Rattle.slices.proofs.Equality.{same-length}
 use Rattle.entries.specs.View.{modeNamed}
 use Rattle.entries.specs.Walk.{entriesHead, viewHead, viewAt}
 use Rattle.entries.specs.declared.view.Mode.the-variants as M

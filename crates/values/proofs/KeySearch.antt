@@ -1,16 +1,14 @@
 -- Laws of keys: of the search for an equal one, and of the scratch that keeps where their contents lie. Assumes nothing.
 use mathlib.Core.Path.{_≡_, refl, sym, ap, _∙_, subst}
 use mathlib.Core.Logic.{⊎-elim}
-use mathlib.Core.Bool.{Bool, true, false, cond, _||_, and-false}
-use mathlib.Core.List.{List, [], _∷_}
+use mathlib.Core.Bool.{Bool, true, false, cond, _||_}
+use mathlib.Core.List.{List}
 use Prim.Native.Nat.{ℕ, zero, suc, _+_, _-_, _≤_, _<_}
 use native.Mathlib.Nat.{not-suc-le-zero, le-of-suc-le-suc, eq-or-lt-of-le}
 use native.Mathlib.Omega.{arith}
-use borrow.Author.Tests.{eq-eqb, ne-eqb}
-use lib.Dec.{eqb}
-use lib.ListN.{length, getD}
+use lib.ListN.{length}
 use Rattle.slices.specs.Parts.{part}
-use Rattle.slices.proofs.Parts.{length-part, part-cons, getD-part}
+use Rattle.slices.proofs.Parts.{length-part}
 use Rattle.utf8.specs.Utf8.{utf8}
 use Rattle.refusal.specs.declared.Refusal.{Refusal}
 use Rattle.refusal.specs.declared.Refusal.the-variants.{InvalidUtf8, DuplicateKey, KeyNotString}
@@ -23,65 +21,6 @@ use Rattle.markers.specs.declared.extent.Extent.{Extent}
 use Rattle.markers.specs.declared.extent.Extent.the-variants as E
 use Rattle.values.specs.declared.keys.Key.the-variants as Y
 use Rattle.markers.proofs.Extents.{Inside, key-inside}
-
--- ---- equal contents
--- lists of two lengths differ
-pub same-length : (a b : List ℕ) → (length a ≡ length b → ⊥) → same a b ≡ false
-unfolding same
-same-length [] [] h = absurd (h refl)
-same-length [] (y ∷ b) h = refl
-same-length (x ∷ a) [] h = refl
-same-length (x ∷ a) (y ∷ b) h = rw (same-length a b (λ e. h (ap suc e))) (and-false (eqb x y))
-
--- lists that differ at one place differ
-same-at : (a b : List ℕ) (i : ℕ) → (getD a i 0 ≡ getD b i 0 → ⊥) → same a b ≡ false
-unfolding same
-same-at [] [] i h = absurd (h refl)
-same-at [] (y ∷ b) i h = refl
-same-at (x ∷ a) [] i h = refl
-same-at (x ∷ a) (y ∷ b) zero h = rw (ne-eqb x y h)
-same-at (x ∷ a) (y ∷ b) (suc i) h = rw (same-at a b i h) (and-false (eqb x y))
-
--- what is left of a part, one element and the rest
-left-cons : (s : List ℕ) (p n i : ℕ) → i < n → p + n ≤ length s → part s (p + i) (n - i) ≡ getD s (p + i) 0 ∷ part s (p + (i + 1)) (n - (i + 1))
-left-cons s p n i h l =
-    let e : n - i ≡ suc (n - (i + 1)) = omega arith in
-    let f : p + (i + 1) ≡ p + i + 1 = omega arith in
-    let g : p + i < length s = omega arith in
-    rw (e, f) (part-cons s (p + i) (n - (i + 1)) g)
-
--- two parts of one size: what is left of them decides as the whole of them does
-abbrev pub Comparing : List ℕ → ℕ → ℕ → ℕ → ℕ → Type 0
-Comparing s a b n i = same (part s a n) (part s b n) ≡ same (part s (a + i) (n - i)) (part s (b + i) (n - i))
-
-module _ (s : List ℕ) (a b n : ℕ) where
-  pub comparing-none : Comparing s a b n 0
-  comparing-none =
-      let e : n - 0 ≡ n = omega arith in
-      let f : a + 0 ≡ a = omega arith in
-      let g : b + 0 ≡ b = omega arith in
-      rw (e, f, g)
-
-  pub other-size : (m : ℕ) → a + m ≤ length s → b + n ≤ length s → (m ≡ n → ⊥) → same (part s a m) (part s b n) ≡ false
-  other-size m h l d = same-length (part s a m) (part s b n) (λ e. d (sym (length-part s a m h) ∙ e ∙ length-part s b n l))
-
-  pub last-differs : 0 < n → (getD s (a + (n - 1)) 0 ≡ getD s (b + (n - 1)) 0 → ⊥) → same (part s a n) (part s b n) ≡ false
-  last-differs h d =
-      same-at (part s a n) (part s b n) (n - 1) (λ e. d (sym (getD-part s a n (n - 1) (omega arith)) ∙ e ∙ getD-part s b n (n - 1) (omega arith)))
-
-  module _ (i : ℕ) (so-far : Comparing s a b n i) where
-    pub all-equal : i ≡ n → same (part s a n) (part s b n) ≡ true
-    unfolding same
-    all-equal e = let z : n - i ≡ 0 = omega arith in so-far ∙ rw z
-
-    module _ (h : i < n) (ka : a + n ≤ length s) (kb : b + n ≤ length s) where
-      pub one-equal : getD s (a + i) 0 ≡ getD s (b + i) 0 → Comparing s a b n (i + 1)
-      unfolding same
-      one-equal e = so-far ∙ rw (left-cons s a n i h ka, left-cons s b n i h kb, eq-eqb (getD s (a + i) 0) (getD s (b + i) 0) e)
-
-      pub one-differs : (getD s (a + i) 0 ≡ getD s (b + i) 0 → ⊥) → same (part s a n) (part s b n) ≡ false
-      unfolding same
-      one-differs e = so-far ∙ rw (left-cons s a n i h ka, left-cons s b n i h kb, ne-eqb (getD s (a + i) 0) (getD s (b + i) 0) e)
 
 -- ---- the search, from the latest key back
 module _ (s scratch : List ℕ) (base : ℕ) (key : List ℕ) where

@@ -4,7 +4,8 @@ use Prim.Native.Nat.{_≤_, _-_}
 use native.Mathlib.Omega.{arith}
 use Rattle.slices.specs.Parts.{part}
 use Rattle.slices.specs.Equality.{same}
-use Rattle.entries.proofs.Naming.{spaced, written, startOf, written-length, its-room, name-is, Comparing, comparing-none, all-equal, one-equal, one-differs}
+use Rattle.slices.proofs.Equality.{Comparing, comparing-none, all-equal, one-equal, one-differs}
+use Rattle.entries.proofs.Naming.{spaced, written, startOf, written-length, its-room, name-is}
 use Rattle.entries.proofs.key.is_name.Statement.{statement}
 use Rattle.entries.proofs.key.is_name.Tie as tie
 

@@ -10,13 +10,14 @@ use lib.ListN.{length}
 use Rattle.slices.specs.Parts.{part}
 use Rattle.slices.specs.Equality.{same}
 use Rattle.values.specs.Private.Keys.{startOf, sizeOf}
-use Rattle.values.proofs.KeySearch.{Comparing, comparing-none, other-size, last-differs, all-equal, one-equal, one-differs, Searching, none-left, equal-key, other-key, key-inside-at}
+use Rattle.slices.proofs.Equality.{Comparing, comparing-none, other-size, last-differs, all-equal, one-equal, one-differs}
+use Rattle.values.proofs.KeySearch.{Searching, none-left, equal-key, other-key, key-inside-at}
 use Rattle.values.proofs.keys.repeats.Statement.{statement}
 use Rattle.values.proofs.keys.repeats.Tie as tie
 
 abbrev Inv-loop : tie.InvT-loop
 Inv-loop message scratch base count start size found₀ left from i₀ found i =
-    (i ≤ size) × (found ≡ false) × (from + size ≤ length message) × Comparing message from start size i
+    (i ≤ size) × (found ≡ false) × (from + size ≤ length message) × Comparing message from message start size i
 
 abbrev μ-loop : tie.MeasureT-loop
 μ-loop message scratch base count start size found₀ left from i₀ found i = size - i
@@ -59,14 +60,14 @@ search-again c =
       other-key (a .message .now) (a .scratch .now) (a .base) (part (a .message .now) (a .start) (a .size)) (a .count) (d .before .before .before .before .before .search .left) (d .before .before .before .before .before .search .inv .2) (d .before .before .before .before .search-test .taken)
           (ap (λ (x : List ℕ). same x (part (a .message .now) (a .start) (a .size)))
           (old-is d ∙ ap (part (a .message .now) (d .before .before .wide .result)) (c .before .before .before .before .if1 .taken))
-          ∙ last-differs (a .message .now) (d .before .before .wide .result) (a .start) (a .size) (c .before .before .before .if2 .taken) (c .if3 .taken)),
+          ∙ last-differs (a .message .now) (d .before .before .wide .result) (a .message .now) (a .start) (a .size) (c .before .before .before .if2 .taken) (c .if3 .taken)),
     )
 
 loop-holds : tie.Need-loop-holds Inv-loop μ-loop Inv-search μ-search
 loop-holds c =
     let a = c .before .before .before .before .before .before .before .before .before .before .args in
     let d = c .before .before in
-    (omega arith, d .before .before .before .before .before .search .inv .1, omega (arith, old-inside d, c .before .if1 .taken), comparing-none (a .message .now) (d .before .before .wide .result) (a .start) (a .size))
+    (omega arith, d .before .before .before .before .before .search .inv .1, omega (arith, old-inside d, c .before .if1 .taken), comparing-none (a .message .now) (d .before .before .wide .result) (a .message .now) (a .start) (a .size))
 
 add-if5 : tie.Need-add-if5 Inv-loop μ-loop Inv-search μ-search
 add-if5 c = omega (arith, c .before .loop .inv .2)
@@ -80,7 +81,7 @@ search-again-2 c =
     let d = c .before .before .before .before .before .before .before in
     let l = c .before .before .before .before .loop in
     let differs =
-    one-differs (a .message .now) (d .before .before .wide .result) (a .start) (a .size) (l .i) (l .inv .3) (omega arith) (l .inv .2) (c .before .before .before .before .before .before .before .before .before .before .before .before .before .before .before .pre .0) (c .if5 .taken) in (
+    one-differs (a .message .now) (d .before .before .wide .result) (a .message .now) (a .start) (a .size) (l .i) (l .inv .3) (omega arith) (l .inv .2) (c .before .before .before .before .before .before .before .before .before .before .before .before .before .before .before .pre .0) (c .if5 .taken) in (
       omega arith,
       l .inv .1,
       other-key (a .message .now) (a .scratch .now) (a .base) (part (a .message .now) (a .start) (a .size)) (a .count) (d .before .before .before .before .before .search .left) (d .before .before .before .before .before .search .inv .2) (d .before .before .before .before .search-test .taken)
@@ -97,7 +98,7 @@ loop-again c =
       omega arith,
       l .inv .1,
       l .inv .2,
-      one-equal (a .message .now) (d .before .before .wide .result) (a .start) (a .size) (l .i) (l .inv .3) (omega arith) (l .inv .2) (c .before .before .before .before .before .before .before .before .before .before .before .before .before .before .before .pre .0) (c .if5 .left),
+      one-equal (a .message .now) (d .before .before .wide .result) (a .message .now) (a .start) (a .size) (l .i) (l .inv .3) (omega arith) (l .inv .2) (c .before .before .before .before .before .before .before .before .before .before .before .before .before .before .before .pre .0) (c .if5 .left),
     )
 
 search-again-3 : tie.Need-search-again-3 Inv-loop μ-loop Inv-search μ-search
@@ -108,7 +109,7 @@ search-again-3 c =
       c .before .before .before .before .before .before .search .inv .1,
       other-key (a .message .now) (a .scratch .now) (a .base) (part (a .message .now) (a .start) (a .size)) (a .count) (d .before .before .before .before .before .search .left) (d .before .before .before .before .before .search .inv .2) (d .before .before .before .before .search-test .taken)
           (ap (λ (x : List ℕ). same x (part (a .message .now) (a .start) (a .size))) (old-is d)
-          ∙ other-size (a .message .now) (d .before .before .wide .result) (a .start) (a .size) (d .wide2 .result) (old-inside d) (c .before .before .before .before .before .before .before .before .before .pre .0) (c .if1 .left)),
+          ∙ other-size (a .message .now) (d .before .before .wide .result) (a .message .now) (a .start) (a .size) (d .wide2 .result) (old-inside d) (c .before .before .before .before .before .before .before .before .before .pre .0) (c .if1 .left)),
     )
 
 returns : tie.Need-returns Inv-loop μ-loop Inv-search μ-search
@@ -125,7 +126,7 @@ returns-2 c =
     let l = c .before .loop in
     sym (equal-key (a .message .now) (a .scratch .now) (a .base) (part (a .message .now) (a .start) (a .size)) (a .count) (d .before .before .before .before .before .search .left) (d .before .before .before .before .before .search .inv .2) (d .before .before .before .before .search-test .taken)
     (ap (λ (x : List ℕ). same x (part (a .message .now) (a .start) (a .size))) (old-is d ∙ ap (part (a .message .now) (d .before .before .wide .result)) (c .before .before .before .if1 .taken))
-    ∙ all-equal (a .message .now) (d .before .before .wide .result) (a .start) (a .size) (l .i) (l .inv .3) (c .if4 .taken)))
+    ∙ all-equal (a .message .now) (d .before .before .wide .result) (a .message .now) (a .start) (a .size) (l .i) (l .inv .3) (omega (arith, c .if4 .taken))))
 
 pub repeats-spec : {M : Type 1} → statement M
 repeats-spec =
