@@ -19,7 +19,7 @@ use Rattle.serving.specs.declared.Ending.{Ending}
 use Rattle.serving.specs.declared.Ending.the-variants as E
 use Rattle.serving.specs.declared.Served.{Served}
 
--- nothing is left to do until the next line, the connection has closed, or a call was refused with this number
+-- nothing is left to do until the next request, the connection has closed, or a call was refused with this number
 pub data End : Type 0 where
   idle : End
   closed : End
@@ -63,7 +63,7 @@ succeeding (refused number place) a = a
 unfoldable pub turnOf : Connection → After
 turnOf c = succeeding (takeOf c .answer) (takeOf c)
 
--- what follows an answer: after an arrival and a summary the next turn, else nothing until the next line, or the run's end
+-- what follows an answer: after an arrival and a summary the next turn, else nothing until the next request, or the run's end
 abbrev pub following : Answer Said → Connection → Serving → Serving
 following (result T.queued) c later = later
 following (result (T.answered summary number)) c later = sending summary later

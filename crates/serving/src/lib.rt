@@ -1,4 +1,4 @@
-// Serving a request: it arrives, and then the session takes and reports plain success until the connection is idle or closed.
+// Serving a request: it arrives, and then take and report, with plain success, go on until the connection is idle or closed.
 ghost use mathlib.Core.Path.{_≡_};
 ghost use mathlib.Core.List.{map};
 ghost use Prim.Native.Nat.{_≤_};
@@ -21,7 +21,7 @@ use connection::report;
 use connection::take;
 use refusal::Refusal;
 
-// Why serving ended: nothing is left to do until the next line, the connection closed, or a call was refused.
+// Why serving ended: nothing is left to do until the next request, the connection closed, or a call was refused.
 pub enum Ending {
     Idle,
     Closed,
@@ -33,7 +33,8 @@ pub struct Sent {
     pub summary: Summary,
 }
 
-// The summaries to send stand at the front, in order, and `count` says how many they are; the record is as serving left it.
+// The summaries to send stand at the front, in order, and `count` says how many they are: what stands behind them says nothing. The record is
+// as serving left it.
 pub struct Served {
     pub connection: Connection,
     pub sent: [Sent; 33],
@@ -59,7 +60,7 @@ pub fn stop(connection: Connection, ending: Ending) -> Served
 }
 
 // The record after a refusal: the caller closes after 5 to 16.
-pub fn after_refusal(connection: Connection, why: Refusal) -> Connection
+fn after_refusal(connection: Connection, why: Refusal) -> Connection
     ensures { λ r. ⌜ r ≡ afterRefusal (numberOf why) connection ⌝ }
 {
     let number = why.number();
