@@ -53,25 +53,25 @@ fn run_line(line: &[u8], bytes: &mut [u8], connection: Connection) -> Connection
 }
 
 // The input need not end, so the turns are counted down from a number that no run uses up.
-fn run(buffer: &mut [u8], bytes: &mut [u8]) {
+fn run(block: &mut [u8], held: &mut [u8], bytes: &mut [u8]) {
     let mut connection = connection::record::fresh();
     let mut line = input::fresh();
     let mut turns = u64::MAX;
     while 0 < turns {
         turns -= 1;
-        line = input::next(buffer, line);
+        line = input::next(line, block, held);
         if !line.found {
             return;
         }
-        let start = line.start;
-        let end = line.end;
-        connection = run_line(&buffer[start..end], bytes, connection);
+        let size = line.size;
+        connection = run_line(&held[0..size], bytes, connection);
         output::line_end();
     }
 }
 
 fn main() {
-    let mut buffer = io::large_buffer();
+    let mut block = io::large_buffer();
+    let mut held = [0u8; lines::HELD];
     let mut bytes = [0u8; 20000];
-    run(&mut buffer, &mut bytes);
+    run(&mut block, &mut held, &mut bytes);
 }

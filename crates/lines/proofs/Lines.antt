@@ -1,99 +1,164 @@
--- Laws of the search for a line's end and of the move to the front. Assumes nothing.
+-- Laws of `lines::take_line`: what is held, what is left of the line, and what its end decides. Assumes nothing.
 use mathlib.Core.Path.{_≡_, refl, sym, ap, _∙_}
 use mathlib.Core.Bool.{Bool, true, false, cond}
-use mathlib.Core.List.{List, [], _∷_}
-use Prim.Native.Nat.{ℕ, suc, _+_, _-_, _<_, _≤_}
+use mathlib.Core.List.{List, [], _∷_, _++_, append-nil}
+use Prim.Native.Nat.{ℕ, zero, suc, _+_, _-_, _<_, _≤_, min}
 use native.Mathlib.Numerals.{add-one}
 use native.Mathlib.Omega.{arith}
-use lib.Dec.{eqb}
-use lib.ListN.{length, getD, set, drop, length-take, length-drop, drop-of-length-le}
-use lib.Seq.{drop-cons, getD-drop, getD-append-add}
+use lib.ListN.{length, getD, set, take, drop, length-take, drop-of-length-le}
+use lib.Seq.{drop-cons, take-nil, take-append-add}
 use borrow.Author.Tests.{eq-eqb, ne-eqb}
-use Rattle.slices.specs.Parts.{part, front}
-use Rattle.slices.proofs.Parts.{length-part, part-cons, part-past, part-cut}
-use Rattle.slices.proofs.Pieces.{Put, put-none, put-next, put-done}
-use Rattle.lines.specs.Lines.{firstLine}
+use Rattle.slices.specs.Parts.{front}
+use Rattle.slices.proofs.Pieces.{Put, put-next, put-done}
+use Rattle.lines.specs.Lines.{firstLine, hasEnd, firstLines}
+use Rattle.lines.specs.Blocks.{heldOf}
 
--- ---- the search
-first-le : (s : List ℕ) → length (firstLine s) ≤ length s
-unfolding firstLine
-first-le [] = omega arith
-first-le (c ∷ s) = by (eqb c 0x0A) (first-le s)
-  where
-    by : (t : Bool) → length (firstLine s) ≤ length s → length (cond t [] (c ∷ firstLine s)) ≤ suc (length s)
-    by true h = omega arith
-    by false h = omega (arith, h)
+-- the line that a list begins with stands in front of it
+pub front-taken : (n : ℕ) (d : List ℕ) → d ≡ front (take n d) d
+front-taken n [] = simp take-nil
+front-taken zero (x ∷ d) = refl
+front-taken (suc n) (x ∷ d) = ap (x ∷_) (front-taken n d)
 
--- the first line lies inside
-pub first-fits : (s : List ℕ) {n : ℕ} → n ≡ length (firstLine s) → n ≤ length s
-first-fits s e = omega (arith, first-le s)
+-- a line is held behind its beginning as far as there is room
+held-behind : (most : ℕ) (b l : List ℕ) → length b ≤ most → take most (b ++ l) ≡ b ++ take (most - length b) l
+held-behind most b l h =
+    let e : most ≡ length b + (most - length b) = omega arith in
+    ap (λ (n : ℕ). take n (b ++ l)) e ∙ take-append-add b l (most - length b)
 
--- the i characters passed are no line ends
-abbrev pub Passed : List ℕ → ℕ → Type 0
-Passed s i = length (firstLine s) ≡ i + length (firstLine (drop i s))
+-- ---- the first character decides
+module _ (c : ℕ) (s : List ℕ) where
+  module _ (h : c ≡ 0x0A) where
+    pub line-end : firstLine (c ∷ s) ≡ []
+    unfolding firstLine
+    line-end = ap (λ (b : Bool). cond b [] (c ∷ firstLine s)) (eq-eqb c 0x0A h)
 
-module _ (s : List ℕ) (i : ℕ) (inside : i < length s) (w : Passed s i) where
-  pub passed-next : (getD s i 0 ≡ 0x0A → ⊥) → Passed s (i + 1)
-  unfolding firstLine
-  passed-next h = w ∙ rw (drop-cons s i 0 inside, add-one i) (simp (ne-eqb (getD s i 0) 0x0A h) (omega arith))
+    pub ends-here : hasEnd (c ∷ s) ≡ true
+    unfolding hasEnd
+    ends-here = ap (λ (b : Bool). cond b true (hasEnd s)) (eq-eqb c 0x0A h)
 
-  pub passed-end : getD s i 0 ≡ 0x0A → length (firstLine s) ≡ i
-  unfolding firstLine
-  passed-end h = w ∙ rw (drop-cons s i 0 inside) (simp (eq-eqb (getD s i 0) 0x0A h) (omega arith))
+    pub taken-end : firstLines 1 (c ∷ s) ≡ c ∷ []
+    unfolding firstLines
+    taken-end = ap (λ (b : Bool). c ∷ cond b [] (firstLines 1 s)) (eq-eqb c 0x0A h)
 
-pub passed-all : (s : List ℕ) (i : ℕ) → length s ≤ i → Passed s i → length (firstLine s) ≡ i
-unfolding firstLine
-passed-all s i h w = w ∙ rw (drop-of-length-le s h) (omega arith)
+  module _ (h : c ≡ 0x0A → ⊥) where
+    pub line-next : firstLine (c ∷ s) ≡ c ∷ firstLine s
+    unfolding firstLine
+    line-next = ap (λ (b : Bool). cond b [] (c ∷ firstLine s)) (ne-eqb c 0x0A h)
 
--- ---- the move: the i bytes moved stand in front, and those still to be moved are as they were
-abbrev pub Moving : List ℕ → ℕ → ℕ → List ℕ → ℕ → Type 0
-Moving s start n d i = Put (part s start n) s d i (part s (start + i) (n - i))
+    pub ends-later : hasEnd (c ∷ s) ≡ hasEnd s
+    unfolding hasEnd
+    ends-later = ap (λ (b : Bool). cond b true (hasEnd s)) (ne-eqb c 0x0A h)
 
-module _ (s : List ℕ) (start n : ℕ) (fits : start + n ≤ length s) where
-  pub moving-none : Moving s start n s 0
-  moving-none =
-      let a : start + 0 ≡ start = omega arith in
-      let b : n - 0 ≡ n = omega arith in
-      rw (a, b) (put-none (part s start n) s)
+    pub taken-next : firstLines 1 (c ∷ s) ≡ c ∷ firstLines 1 s
+    unfolding firstLines
+    taken-next = ap (λ (b : Bool). c ∷ cond b [] (firstLines 1 s)) (ne-eqb c 0x0A h)
 
-  module _ (d : List ℕ) (i : ℕ) (w : Moving s start n d i) where
-    as-it-was : getD d (start + i) 0 ≡ getD s (start + i) 0
-    as-it-was =
-        let e : start + i ≡ length (w .done) + start = omega (arith, w .count) in
-        rw (w .holds, e) (getD-append-add (w .done) (drop (length (w .done)) s) start 0 ∙ getD-drop (length (w .done)) s start 0)
+-- ---- the loop
+-- i characters of the block are taken, and `size` of the line are held in `d`, which was lent as `held` with the line begun in front
+pub record Taking (held : List ℕ) (begun : ℕ) (block d : List ℕ) (size i : ℕ) : Type 0 where
+  pub inside : i ≤ length block
+  pub fits : size ≤ length held
+  pub holds : Put (heldOf (length held) (take begun held) block) held d size (take (length held - size) (firstLine (drop i block)))
+  pub ends : hasEnd block ≡ hasEnd (drop i block)
+  pub takes : length (firstLines 1 block) ≡ i + length (firstLines 1 (drop i block))
 
-    pub moving-next : i < n → Moving s start n (set d i (getD d (start + i) 0)) (i + 1)
-    moving-next h =
-        let x : ℕ = getD s (start + i) 0 in
-        let e : n - i ≡ suc (n - (i + 1)) = omega arith in
-        let a : start + (i + 1) ≡ start + i + 1 = omega arith in
-        let p : part s (start + i) (n - i) ≡ x ∷ part s (start + i + 1) (n - (i + 1)) =
-        ap (part s (start + i)) e ∙ part-cons s (start + i) (n - (i + 1)) (omega arith) in
-        rw (as-it-was, a)
-        (put-next (x ∷ []) (part s (start + i + 1) (n - (i + 1))) (rw p at w) (omega (arith, length-part s start n fits)))
+-- what `take_line` answers, and what it leaves
+abbrev pub Took : List ℕ → ℕ → List ℕ → List ℕ → ℕ → Type 0
+Took held begun block d size = (size ≡ length (heldOf (length held) (take begun held) block)) × (d ≡ front (heldOf (length held) (take begun held) block) held)
 
-    pub moving-done : n ≤ i → d ≡ front (part s start n) s
-    moving-done h =
-        let z : n - i ≡ 0 = omega arith in
-        put-done (rw z at w)
+module _ (held : List ℕ) (begun : ℕ) (block : List ℕ) where
+  pub taking-none : {size : ℕ} → size ≡ min begun (length held) → Taking held begun block held size 0
+  taking-none {size} e =
+      let n : length (take begun held) ≡ size = length-take begun held ∙ sym e in
+      record {
+        inside = omega arith;
+        fits = omega arith;
+        holds = record {
+          done = take begun held;
+          count = n;
+          holds = front-taken begun held;
+          whole = held-behind (length held) (take begun held) (firstLine block) (omega arith) ∙ ap (λ (k : ℕ). take begun held ++ take (length held - k) (firstLine block)) n;
+        };
+        ends = refl;
+        takes = omega arith;
+      }
 
--- ---- what is kept
--- it is not more than there is
-pub kept-fits : (s : List ℕ) (start size : ℕ) {n : ℕ} → n ≡ length (part s start size) → n ≤ length s
-kept-fits s start size e = omega (arith, length-take size (drop start s), length-drop start s)
+  abbrev line : List ℕ
+  line = heldOf (length held) (take begun held) block
 
--- nothing past the end, what there is where it ends too soon, or all
-module _ (s : List ℕ) (start size : ℕ) where
-  pub kept-none : length s ≤ start → (0 ≡ length (part s start size)) × (s ≡ front (part s start size) s)
-  kept-none h = rw (part-past s start size h) (refl, refl)
+  -- nothing of the line is left
+  held-all : {d : List ℕ} {size : ℕ} (l : List ℕ) → l ≡ [] → Put line held d size l → Took held begun block d size
+  held-all {d} {size} l e w =
+      let w′ : Put line held d size [] = rw e at w in
+      (sym (w′ .count) ∙ ap length (sym (w′ .whole ∙ append-nil (w′ .done))), put-done w′)
 
-  module _ {d : List ℕ} (inside : start < length s) where
-    pub kept-cut : length s - start < size → d ≡ front (part s start (length s - start)) s
-        → (length s - start ≡ length (part s start size)) × (d ≡ front (part s start size) s)
-    kept-cut h e =
-        let p : part s start (length s - start) ≡ part s start size = part-cut s start size (omega arith) in
-        (sym (length-part s start (length s - start) (omega arith)) ∙ ap length p, e ∙ ap (λ (l : List ℕ). front l s) p)
+  module _ (d : List ℕ) (size i : ℕ) (w : Taking held begun block d size i) where
+    module _ (h : i < length block) where
+      abbrev c : ℕ
+      c = getD block i 0
 
-    pub kept-all : size ≤ length s - start → d ≡ front (part s start size) s
-        → (size ≡ length (part s start size)) × (d ≡ front (part s start size) s)
-    kept-all h e = (sym (length-part s start size (omega arith)), e)
+      abbrev s : List ℕ
+      s = drop (i + 1) block
+
+      rest : drop i block ≡ c ∷ s
+      rest = drop-cons block i 0 h ∙ ap (λ (n : ℕ). c ∷ drop n block) (sym (add-one i))
+
+      pub taking-end : c ≡ 0x0A → (i + 1 ≡ length (firstLines 1 block)) × ((true ≡ hasEnd block) × Took held begun block d size)
+      taking-end e =
+          let n : length (firstLines 1 (drop i block)) ≡ 1 = ap (λ (l : List ℕ). length (firstLines 1 l)) rest ∙ ap length (taken-end c s e) in (
+            omega (arith, w .takes, n),
+            (
+              sym (w .ends ∙ ap hasEnd rest ∙ ends-here c s e),
+              held-all (take (length held - size) (firstLine (drop i block)))
+                  (ap (λ (l : List ℕ). take (length held - size) (firstLine l)) rest ∙ ap (take (length held - size)) (line-end c s e) ∙ take-nil {A = ℕ} (length held - size)) (w .holds),
+            ),
+          )
+
+      module _ (e : c ≡ 0x0A → ⊥) where
+        ends-after : hasEnd block ≡ hasEnd s
+        ends-after = w .ends ∙ ap hasEnd rest ∙ ends-later c s e
+
+        takes-after : length (firstLines 1 block) ≡ i + 1 + length (firstLines 1 s)
+        takes-after =
+            let n : length (firstLines 1 (drop i block)) ≡ suc (length (firstLines 1 s)) = ap (λ (l : List ℕ). length (firstLines 1 l)) rest ∙ ap length (taken-next c s e) in
+            omega (arith, w .takes, n)
+
+        left : (n : ℕ) → take n (firstLine (drop i block)) ≡ take n (c ∷ firstLine s)
+        left n = ap (λ (l : List ℕ). take n (firstLine l)) rest ∙ ap (take n) (line-next c s e)
+
+        pub taking-next : size < length held → Taking held begun block (set d size c) (size + 1) (i + 1)
+        taking-next k =
+            let m : length held - size ≡ suc (length held - (size + 1)) = omega arith in
+            let r : take (length held - size) (firstLine (drop i block)) ≡ c ∷ take (length held - (size + 1)) (firstLine s) =
+            left (length held - size) ∙ ap (λ (n : ℕ). take n (c ∷ firstLine s)) m in
+            record {
+              inside = omega arith;
+              fits = omega arith;
+              holds = put-next (c ∷ []) (take (length held - (size + 1)) (firstLine s)) (rw r at (w .holds)) (omega (arith, length-take (length held) (take begun held ++ firstLine block)));
+              ends = ends-after;
+              takes = takes-after;
+            }
+
+        pub taking-full : length held ≤ size → Taking held begun block d size (i + 1)
+        taking-full k =
+            let m : length held - size ≡ 0 = omega arith in
+            record {
+              inside = omega arith;
+              fits = w .fits;
+              holds = rw m (rw m at (w .holds));
+              ends = ends-after;
+              takes = takes-after;
+            }
+
+    pub taking-all : length block ≤ i → (i ≡ length (firstLines 1 block)) × ((false ≡ hasEnd block) × Took held begun block d size)
+    unfolding firstLine hasEnd firstLines
+    taking-all h =
+        let n : drop i block ≡ [] = drop-of-length-le block h in
+        let t : length (firstLines 1 (drop i block)) ≡ 0 = ap (λ (l : List ℕ). length (firstLines 1 l)) n in (
+          omega (arith, w .takes, t),
+          (
+            sym (w .ends ∙ ap hasEnd n),
+            held-all (take (length held - size) (firstLine (drop i block)))
+                (ap (λ (l : List ℕ). take (length held - size) (firstLine l)) n ∙ take-nil {A = ℕ} (length held - size)) (w .holds),
+          ),
+        )

@@ -1,52 +1,63 @@
-// Lines of a stream that is read block by block into fixed memory: where a line ends, and what is kept of one that has not ended yet.
-// Document 01, "Bench trial program": a line ends with 0A, which the last may lack.
+// Lines of a stream that comes block by block: a line is held in fixed memory until its end has come. Document 01, "Bench trial program": a
+// line ends with 0A, which the last may lack.
 ghost use mathlib.Core.Path.{_≡_};
-ghost use Prim.Native.Nat.{_+_, _≤_};
-ghost use lib.ListN.{length};
-ghost use Rattle.slices.specs.Parts.{part, front};
-ghost use Rattle.lines.specs.Lines.{firstLine};
+ghost use Prim.Native.Nat.{min};
+ghost use lib.ListN.{length, take};
+ghost use Rattle.slices.specs.Parts.{front};
+ghost use Rattle.lines.specs.Lines.{firstLines, hasEnd};
+ghost use Rattle.lines.specs.Blocks.{heldOf};
 
 pub const LINE_END: u8 = 0x0A;
 
-// How many characters stand before the first line end, or how many there are where there is none.
-pub fn first_length(bytes: &[u8]) -> usize
-    ensures { λ r. ⌜ r ≡ length (firstLine (now (bytes .entry))) ⌝ }
+// How many characters of a line are held: one more than a line may have, which is enough to know that it is too long.
+pub const HELD: usize = 40001;
+
+// What the next characters of a stream come to: how many were taken, whether a line end was the last of them, and how many characters of
+// the line are held.
+pub struct Taken {
+    pub taken: usize,
+    pub ended: bool,
+    pub size: usize,
+}
+
+fn least(a: usize, b: usize) -> usize
+    ensures { λ r. ⌜ r ≡ min a b ⌝ }
 {
+    if a < b {
+        return a;
+    }
+    b
+}
+
+// Takes the characters of a block up to its first line end, and that. Those of the line are held behind the `begun` characters of it that
+// are held already, as far as there is room for them: the line stands in front of what was lent.
+pub fn take_line(held: &mut [u8], begun: usize, block: &[u8]) -> Taken
+    ensures taken { λ r. ⌜ r .taken ≡ length (firstLines 1 (now (block .entry))) ⌝ }
+    ensures ended { λ r. ⌜ r .ended ≡ hasEnd (now (block .entry)) ⌝ }
+    ensures size { λ r. ⌜ r .size ≡ length (heldOf (length (now (held .entry))) (take begun (now (held .entry))) (now (block .entry))) ⌝ }
+    ensures filled { λ _. ⌜ now (held .exit) ≡ front (heldOf (length (now (held .entry))) (take begun (now (held .entry))) (now (block .entry))) (now (held .entry)) ⌝ }
+{
+    let room = held.len();
+    let mut size = least(begun, room);
     let mut i = 0;
-    while i < bytes.len() {
-        if bytes[i] == LINE_END {
-            return i;
+    while i < block.len() {
+        let character = block[i];
+        i += 1;
+        if character == LINE_END {
+            return Taken {
+                taken: i,
+                ended: true,
+                size: size,
+            };
         }
-        i += 1;
+        if size < room {
+            held[size] = character;
+            size += 1;
+        }
     }
-    i
-}
-
-fn shift(buffer: &mut [u8], start: usize, size: usize)
-    requires { ⌜ start + size ≤ length (now buffer) ⌝ }
-    ensures { λ _. ⌜ now (buffer .exit) ≡ front (part (now (buffer .entry)) start size) (now (buffer .entry)) ⌝ }
-{
-    let mut i = 0;
-    while i < size {
-        buffer[i] = buffer[start + i];
-        i += 1;
+    Taken {
+        taken: i,
+        ended: false,
+        size: size,
     }
-}
-
-// Moves the `size` bytes from `start` on, or as many of them as there are, to the front of the buffer: the beginning of a line whose
-// rest is still to be read behind it. Answers how many they are.
-pub fn keep(buffer: &mut [u8], start: usize, size: usize) -> usize
-    ensures answer { λ r. ⌜ r ≡ length (part (now (buffer .entry)) start size) ⌝ }
-    ensures filled { λ _. ⌜ now (buffer .exit) ≡ front (part (now (buffer .entry)) start size) (now (buffer .entry)) ⌝ }
-{
-    if buffer.len() <= start {
-        return 0;
-    }
-    let left = buffer.len() - start;
-    if left < size {
-        shift(buffer, start, left);
-        return left;
-    }
-    shift(buffer, start, size);
-    size
 }

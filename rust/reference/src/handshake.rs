@@ -3,7 +3,7 @@
 use crate::{Refusal, Result};
 
 const PREAMBLE: [u8; 4] = [0x60, 0x60, 0xB0, 0x17];
-const LENGTH: usize = 20;
+pub const LENGTH: usize = 20;
 
 /// A version of Bolt that this front end speaks.
 #[derive(Clone, Copy, PartialEq, Eq, Debug)]

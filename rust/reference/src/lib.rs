@@ -7,6 +7,7 @@ pub mod frame;
 pub mod handshake;
 pub mod pack;
 pub mod request;
+pub mod trial;
 pub mod value;
 
 /// The longest message, in bytes.
@@ -42,6 +43,7 @@ impl Refusal {
     pub const COUNT_EXHAUSTED: u8 = 20;
     pub const NO_ROOM: u8 = 21;
     pub const NO_CHUNKS: u8 = 22;
+    pub const INVALID_LINE: u8 = 23;
     pub const RULE_BROKEN: u8 = 24;
 
     /// A refusal whose number has no place of its own.

@@ -6,10 +6,10 @@ use Rattle.vectors.proofs.run.Statement.{statement}
 use Rattle.vectors.proofs.run.Tie as tie
 
 abbrev Inv-loop : tie.InvT-loop
-Inv-loop buffer₀ bytes₀ space₀ line₀ turns₀ buffer bytes space line turns = (length buffer ≡ length buffer₀) × (length bytes ≡ length bytes₀) × (length space ≡ length space₀)
+Inv-loop block₀ held₀ bytes₀ space₀ line₀ turns₀ block held bytes space line turns = (length block ≡ length block₀) × (length held ≡ length held₀) × (length bytes ≡ length bytes₀) × (length space ≡ length space₀)
 
 abbrev μ-loop : tie.MeasureT-loop
-μ-loop buffer₀ bytes₀ space₀ line₀ turns₀ buffer bytes space line turns = turns
+μ-loop block₀ held₀ bytes₀ space₀ line₀ turns₀ block held bytes space line turns = turns
 
 pub run-spec : {M : Type 1} → statement M
 run-spec =
@@ -28,8 +28,10 @@ run-spec =
     (λ c. search needs)
     (λ c. search needs)
     (λ c. search needs)
+    (λ c. search needs)
     (λ c κs. search needs)
     (λ c κs. search needs)
+    (λ c. search needs)
     (λ c. search needs)
     (λ c. search needs)
     (λ c. search needs)

@@ -1,4 +1,4 @@
--- `console::input::next` meets its contract. The invariant is that contract, of the line so far; the measure is the turns left. Assumes nothing.
+-- `input::next` meets its contract: what is held lies inside. The measure is the turns left. Assumes nothing.
 use mathlib.Core.Path.{_≡_}
 use Prim.Native.Nat.{_≤_}
 use lib.ListN.{length}
@@ -7,10 +7,10 @@ use Rattle.console.proofs.input.next.Statement.{statement}
 use Rattle.console.proofs.input.next.Tie as tie
 
 abbrev Inv-loop : tie.InvT-loop
-Inv-loop buffer₀ line₀ turns₀ buffer line turns = (line .start ≤ line .end) × (line .end ≤ length buffer) × (length buffer ≡ length buffer₀)
+Inv-loop block₀ held₀ begun input₀ turns₀ block held input turns = (length block ≡ length block₀) × (length held ≡ length held₀) × (input .size ≤ length held)
 
 abbrev μ-loop : tie.MeasureT-loop
-μ-loop buffer₀ line₀ turns₀ buffer line turns = turns
+μ-loop block₀ held₀ begun input₀ turns₀ block held input turns = turns
 
 pub next-spec : {M : Type 1} → statement M
 next-spec =
@@ -23,10 +23,13 @@ next-spec =
     (λ c. search needs)
     (λ c. search needs)
     (λ c. search needs)
+    (λ c. search needs)
     (λ c κs. search needs)
     (λ c. search needs)
     (λ c. search needs)
+    (λ c. search needs)
     (λ c κs. search needs)
+    (λ c. search needs)
     (λ c. search needs)
     (λ c. search needs)
     (λ c. search needs)

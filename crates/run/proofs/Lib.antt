@@ -1,0 +1,4 @@
+pub mod Lines
+pub mod Feeding
+pub mod Passing
+pub mod Whole
