@@ -4,5 +4,6 @@ pub mod Bits
 pub mod Choices
 pub mod Crossing
 pub mod Leaving
+pub mod OnImage
 pub mod Signed
 pub mod Versions

@@ -1,11 +1,12 @@
--- The calls on a connection record that is an image: document 01, "Connection record". Assumes nothing.
+-- The calls on a connection record that is an image: document 01, "Connection record" and "Refusal numbers". Assumes nothing.
 use Prim.Native.Nat.{ℕ}
-use mathlib.Core.Bool.{Bool, cond, _&&_}
+use mathlib.Core.Bool.{Bool, cond}
 use lib.Dec.{eqb, leb}
-use Rattle.refusal.specs.Answer.{refused}
+use Rattle.refusal.specs.Answer.{Answer, refused}
 use Rattle.connection.specs.declared.answers.Outcome.{Outcome}
 use Rattle.connection.specs.declared.answers.Outcome.the-variants.{Success, More, Failure}
-use Rattle.connection.specs.Record.{After, arriveOf, takeOf, reportOf, closeOf}
+use Rattle.connection.specs.Table.{Table, Done, unlessDefunct, arriveT, takeT, reportT, closeT}
+use Rattle.connection.specs.Record.{kept, called}
 use Rattle.meulhaton.specs.declared.image.RequestImage.{RequestImage}
 use Rattle.meulhaton.specs.declared.image.Image.{Image}
 use Rattle.meulhaton.specs.declared.calls.OutcomeImage.{OutcomeImage}
@@ -23,23 +24,24 @@ abbrev pub isOutcome : OutcomeImage → Bool
 isOutcome o = leb (o .number) 2
 
 -- ---- the calls
--- 24 where a number names nothing, before anything else
+-- what a caller can pass: any kind and any outcome, whether it names something or not
+pub data CallImage : Type 0 where
+  arrive : RequestImage → CallImage
+  take : CallImage
+  report : OutcomeImage → CallImage
+  close : CallImage
+
+-- "Order for calls: 24, 18, then 16, 20, 17 (arrive) or 19 (report)": a kind that names no request is 16, an outcome that names none 19
+abbrev pub stepOn : Table → CallImage → Answer Done
+stepOn t (arrive r) = cond (isRequest r) (arriveT t (requestOf r)) (unlessDefunct t (refused 16 0))
+stepOn t take = takeT t
+stepOn t (report o) = cond (isOutcome o) (reportT t (outcomeOf (o .number))) (unlessDefunct t (refused 19 0))
+stepOn t close = closeT t
+
+-- 24, and the image as it was
 abbrev pub broken : Image → Answered
 broken i = record { image = i; reply = replyOf (refused 24 0) }
 
--- a call, if every number names something
-abbrev pub called : Image → Bool → After → Answered
-called i named a = cond named (afterCall i a) (broken i)
-
--- each call: the call on the record that the image is of
-unfoldable pub arriveOn : Image → RequestImage → Answered
-arriveOn i r = called i (names i && isRequest r) (arriveOf (recordOf i) (requestOf r))
-
-unfoldable pub takeOn : Image → Answered
-takeOn i = called i (names i) (takeOf (recordOf i))
-
-unfoldable pub reportOn : Image → OutcomeImage → Answered
-reportOn i o = called i (names i && isOutcome o) (reportOf (recordOf i) (outcomeOf (o .number)))
-
-unfoldable pub closeOn : Image → Answered
-closeOn i = called i (names i) (closeOf (recordOf i))
+-- a call on the record that the image is of: 24 where a number of the image names nothing, as where its record breaks a standing rule
+unfoldable pub callOn : Image → CallImage → Answered
+callOn i x = cond (names i) (afterCall i (called (recordOf i) (stepOn (kept (recordOf i)) x))) (broken i)

@@ -1,8 +1,13 @@
-// The four calls on a connection record that the caller owns as an image. The image is checked on entry: 24 where a number names nothing,
-// as where the record breaks a standing rule. A refused call leaves the image bit for bit as it was; any other writes the whole image of
-// the record after it.
+// The four calls on a connection record that the caller owns as an image. The image is checked on entry: 24 where a number of it names
+// nothing, as where the record breaks a standing rule. A refused call leaves the image bit for bit as it was; any other writes the whole
+// image of the record after it.
 ghost use mathlib.Core.Path.{_≡_};
-ghost use Rattle.meulhaton.specs.Calls.{outcomeOf, arriveOn, takeOn, reportOn, closeOn};
+ghost use Rattle.refusal.specs.Answer.{refused};
+ghost use Rattle.refusal.specs.Numbers.{numberOf};
+ghost use Rattle.connection.specs.Table.{unlessDefunct};
+ghost use Rattle.connection.specs.Record.{kept, called};
+ghost use Rattle.meulhaton.specs.Replies.{afterCall};
+ghost use Rattle.meulhaton.specs.Calls.{outcomeOf, callOn, arrive, take, report, close};
 use crate::image;
 use crate::image::Image;
 use crate::image::RequestImage;
@@ -10,6 +15,10 @@ use crate::replies;
 use crate::replies::Answered;
 use crate::replies::Reply;
 use connection::answers::Outcome;
+use connection::record;
+use connection::record::Connection;
+use connection::record::State;
+use connection::rules;
 use refusal::Refusal;
 
 // How the engine ended a request: success 0, success with more 1, failure 2.
@@ -30,24 +39,40 @@ fn outcome_of(number: u8) -> Outcome
     Outcome::Failure
 }
 
+// A call whose argument names nothing: 24 and 18 come before the refusal that it gets for that.
+fn refusing(image: Image, connection: Connection, why: Refusal) -> Answered
+    ensures { λ r. ⌜ r ≡ afterCall image (called connection (unlessDefunct (kept connection) (refused (numberOf why) 0))) ⌝ }
+{
+    let control = connection.control;
+    let queue = connection.queue;
+    if !rules::keeps_rules(control, queue) {
+        return replies::refuse(image, Refusal::InvalidRecord);
+    }
+    let state = control.state;
+    if record::rank(state) == record::rank(State::Defunct) {
+        return replies::refuse(image, Refusal::ConnectionDefunct);
+    }
+    replies::refuse(image, why)
+}
+
 // The calls on an image by value.
 fn arriving(image: Image, request: RequestImage) -> Answered
-    ensures { λ r. ⌜ r ≡ arriveOn image request ⌝ }
+    ensures { λ r. ⌜ r ≡ callOn image (arrive request) ⌝ }
 {
     if !image::names(image) {
         return replies::refuse(image, Refusal::InvalidRecord);
     }
-    if !image::is_request(request) {
-        return replies::refuse(image, Refusal::InvalidRecord);
-    }
     let connection = image::record_of(image);
+    if !image::is_request(request) {
+        return refusing(image, connection, Refusal::InvalidField);
+    }
     let request = image::request_of(request);
     let after = connection::arrive::arrive(connection, request);
     replies::arrived(image, after)
 }
 
 fn taking(image: Image) -> Answered
-    ensures { λ r. ⌜ r ≡ takeOn image ⌝ }
+    ensures { λ r. ⌜ r ≡ callOn image take ⌝ }
 {
     if !image::names(image) {
         return replies::refuse(image, Refusal::InvalidRecord);
@@ -58,22 +83,22 @@ fn taking(image: Image) -> Answered
 }
 
 fn reporting(image: Image, outcome: OutcomeImage) -> Answered
-    ensures { λ r. ⌜ r ≡ reportOn image outcome ⌝ }
+    ensures { λ r. ⌜ r ≡ callOn image (report outcome) ⌝ }
 {
     if !image::names(image) {
         return replies::refuse(image, Refusal::InvalidRecord);
     }
-    if 2 < outcome.number {
-        return replies::refuse(image, Refusal::InvalidRecord);
-    }
     let connection = image::record_of(image);
+    if 2 < outcome.number {
+        return refusing(image, connection, Refusal::UnexpectedReport);
+    }
     let outcome = outcome_of(outcome.number);
     let after = connection::report::report(connection, outcome);
     replies::reported(image, after)
 }
 
 fn closing(image: Image) -> Answered
-    ensures { λ r. ⌜ r ≡ closeOn image ⌝ }
+    ensures { λ r. ⌜ r ≡ callOn image close ⌝ }
 {
     if !image::names(image) {
         return replies::refuse(image, Refusal::InvalidRecord);
@@ -86,7 +111,7 @@ fn closing(image: Image) -> Answered
 // A request has come: `connection::arrive`.
 #[no_mangle]
 pub extern "C" fn meulhaton_arrive(connection: &mut Image, request: RequestImage) -> Reply
-    ensures { λ r. ⌜ (now (connection .exit) ≡ arriveOn (now (connection .entry)) request .image) × (r ≡ arriveOn (now (connection .entry)) request .reply) ⌝ }
+    ensures { λ r. ⌜ (now (connection .exit) ≡ callOn (now (connection .entry)) (arrive request) .image) × (r ≡ callOn (now (connection .entry)) (arrive request) .reply) ⌝ }
 {
     let after = arriving(*connection, request);
     *connection = after.image;
@@ -96,7 +121,7 @@ pub extern "C" fn meulhaton_arrive(connection: &mut Image, request: RequestImage
 // The turn of the first request: `connection::take`.
 #[no_mangle]
 pub extern "C" fn meulhaton_take(connection: &mut Image) -> Reply
-    ensures { λ r. ⌜ (now (connection .exit) ≡ takeOn (now (connection .entry)) .image) × (r ≡ takeOn (now (connection .entry)) .reply) ⌝ }
+    ensures { λ r. ⌜ (now (connection .exit) ≡ callOn (now (connection .entry)) take .image) × (r ≡ callOn (now (connection .entry)) take .reply) ⌝ }
 {
     let after = taking(*connection);
     *connection = after.image;
@@ -106,7 +131,7 @@ pub extern "C" fn meulhaton_take(connection: &mut Image) -> Reply
 // The engine's outcome: `connection::report`.
 #[no_mangle]
 pub extern "C" fn meulhaton_report(connection: &mut Image, outcome: OutcomeImage) -> Reply
-    ensures { λ r. ⌜ (now (connection .exit) ≡ reportOn (now (connection .entry)) outcome .image) × (r ≡ reportOn (now (connection .entry)) outcome .reply) ⌝ }
+    ensures { λ r. ⌜ (now (connection .exit) ≡ callOn (now (connection .entry)) (report outcome) .image) × (r ≡ callOn (now (connection .entry)) (report outcome) .reply) ⌝ }
 {
     let after = reporting(*connection, outcome);
     *connection = after.image;
@@ -116,7 +141,7 @@ pub extern "C" fn meulhaton_report(connection: &mut Image, outcome: OutcomeImage
 // The connection ends: `connection::close`.
 #[no_mangle]
 pub extern "C" fn meulhaton_close(connection: &mut Image) -> Reply
-    ensures { λ r. ⌜ (now (connection .exit) ≡ closeOn (now (connection .entry)) .image) × (r ≡ closeOn (now (connection .entry)) .reply) ⌝ }
+    ensures { λ r. ⌜ (now (connection .exit) ≡ callOn (now (connection .entry)) close .image) × (r ≡ callOn (now (connection .entry)) close .reply) ⌝ }
 {
     let after = closing(*connection);
     *connection = after.image;

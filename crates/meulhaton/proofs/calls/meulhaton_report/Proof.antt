@@ -1,6 +1,6 @@
 -- `meulhaton::calls::meulhaton_report` meets its contract: `InPlace`'s walk, where the image is passed to `reporting`, and with it the outcome. Assumes nothing.
 use mathlib.Core.Path.{_≡_, refl, ap}
-use Rattle.meulhaton.specs.Calls.{reportOn}
+use Rattle.meulhaton.specs.Calls.{callOn, report}
 use Rattle.meulhaton.specs.declared.replies.Answered.{Answered}
 use Rattle.in_place.proofs.InPlace.{Plain, of-field, Says, entire-with, entire-with-walk, in-place}
 use Rattle.meulhaton.proofs.Answering.{image, answered, reply, gave}
@@ -17,8 +17,8 @@ argument = of-field X.the-field X′.the-field-laws X′.the-field-plain X′.th
 
 abbrev says : Says (entire-with image answered reply argument gave)
 says = record {
-  S = λ a r. r ≡ reportOn (a .0) (a .1 .0);
-  E = λ κs h xs r w. (w ≡ reportOn h (xs .0) .image) × (r ≡ reportOn h (xs .0) .reply);
+  S = λ a r. r ≡ callOn (a .0) (report (a .1 .0));
+  E = λ κs h xs r w. (w ≡ callOn h (report (xs .0)) .image) × (r ≡ callOn h (report (xs .0)) .reply);
   gives = λ κs h xs r e. (ap (λ (w : Answered). w .image) e, ap (λ (w : Answered). w .reply) e);
 }
 
