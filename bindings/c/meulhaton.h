@@ -53,14 +53,14 @@ enum {
     MEULHATON_TRAILING_BYTES = 13,       /* bytes are left over after the value */
     MEULHATON_UNKNOWN_REQUEST = 14,      /* not a known request structure */
     MEULHATON_WRONG_FIELD_COUNT = 15,    /* a request with another number of fields */
-    MEULHATON_INVALID_FIELD = 16,        /* a field or an entry that is wrong or absent; n or qid out of range */
+    MEULHATON_INVALID_FIELD = 16,        /* a field or an entry that is wrong or absent; n or qid out of range; no request's kind */
     MEULHATON_QUEUE_FULL = 17,           /* 32 requests wait */
     MEULHATON_CONNECTION_DEFUNCT = 18,   /* the connection is DEFUNCT */
-    MEULHATON_UNEXPECTED_REPORT = 19,    /* nothing in flight, or more for a request that has none */
+    MEULHATON_UNEXPECTED_REPORT = 19,    /* nothing in flight, more for a request that has none, or no outcome's number */
     MEULHATON_REQUEST_LIMIT_REACHED = 20, /* 4,294,967,295 accepted */
     MEULHATON_NO_ROOM = 21,              /* no room in the lent buffer */
     MEULHATON_INVALID_CHUNKING = 22,     /* empty message, or chunk size not 1 to 65,535 */
-    MEULHATON_INVALID_RECORD = 24        /* the record breaks a standing rule, or a number names nothing */
+    MEULHATON_INVALID_RECORD = 24        /* the record breaks a standing rule; a number of it, a version or a summary names nothing */
 };
 
 /* ---- the handshake */
@@ -326,7 +326,7 @@ meulhaton_connection meulhaton_fresh(void);
 /* A request has come. A RESET interrupts what is going on at once. In CONNECTED, until HELLO was reported a success, it closes the
  * connection, and a HELLO that waits goes unanswered: give HELLO its turn before what comes behind it arrives.
  * Answers: MEULHATON_QUEUED, or MEULHATON_CLOSED for a RESET in CONNECTED.
- * Refusals, in this order: 24 (also where the kind is none), 18, 16, 20, 17. */
+ * Refusals, in this order: 24, 18, 16 (n or qid is out of its range, or the kind is no request's), 20, 17. */
 meulhaton_reply meulhaton_arrive(meulhaton_connection *connection, meulhaton_request request);
 
 /* The turn of the first request that waits.
@@ -336,7 +336,7 @@ meulhaton_reply meulhaton_take(meulhaton_connection *connection);
 
 /* The engine's outcome for the request in flight.
  * Answers: MEULHATON_ANSWERED. After a HELLO that failed the connection is DEFUNCT: send the summary and drop the transport.
- * Refusals, in this order: 24 (also where the outcome is none), 18, 19. */
+ * Refusals, in this order: 24, 18, 19 (nothing is in flight, there is more for a request that has none, or the outcome is none). */
 meulhaton_reply meulhaton_report(meulhaton_connection *connection, meulhaton_outcome outcome);
 
 /* Ends the connection: nothing waits afterwards, and every further call is refused.

@@ -95,6 +95,18 @@ static bool same(const meulhaton_connection *a, const meulhaton_connection *b) {
            a->accepted == b->accepted && a->sent == b->sent && memcmp(a->streams, b->streams, sizeof a->streams) == 0;
 }
 
+/* Kinds and outcomes that name nothing: they are refused with these numbers, and nothing changes. */
+static void unnamed(meulhaton_connection *connection, uint8_t kind, uint8_t outcome) {
+    meulhaton_connection before = *connection;
+    for (int number = 0; number < 256; number++) {
+        bool named = number == MEULHATON_HELLO || number == MEULHATON_GOODBYE || (number >= MEULHATON_RESET && number <= MEULHATON_ROLLBACK) ||
+                     number == MEULHATON_DISCARD || number == MEULHATON_PULL;
+        if (!named) HOLDS(meulhaton_arrive(connection, (meulhaton_request){(uint8_t)number, 1, -1}).refusal == kind);
+        if (number > 2) HOLDS(meulhaton_report(connection, (meulhaton_outcome){(uint8_t)number}).refusal == outcome);
+    }
+    HOLDS(same(connection, &before));
+}
+
 static void calls(void) {
     meulhaton_connection connection = meulhaton_fresh(), before;
     HOLDS(connection.state == MEULHATON_CONNECTED && connection.waiting == 0 && connection.next == 0);
@@ -104,7 +116,9 @@ static void calls(void) {
     HOLDS(meulhaton_take(&connection).said == MEULHATON_IDLE);
     before = connection;
     HOLDS(meulhaton_report(&connection, (meulhaton_outcome){MEULHATON_OUTCOME_MORE}).refusal == MEULHATON_UNEXPECTED_REPORT);
-    HOLDS(meulhaton_report(&connection, (meulhaton_outcome){3}).refusal == MEULHATON_INVALID_RECORD);
+    HOLDS(meulhaton_report(&connection, (meulhaton_outcome){3}).refusal == MEULHATON_UNEXPECTED_REPORT);
+    reply = meulhaton_arrive(&connection, (meulhaton_request){0, 1, -1});
+    HOLDS(reply.refusal == MEULHATON_INVALID_FIELD && reply.place == 0 && reply.said == 0);
     HOLDS(meulhaton_arrive(&connection, (meulhaton_request){MEULHATON_PULL, 0, -1}).refusal == MEULHATON_INVALID_FIELD);
     HOLDS(same(&connection, &before));
     reply = meulhaton_report(&connection, (meulhaton_outcome){MEULHATON_OUTCOME_SUCCESS});
@@ -113,9 +127,17 @@ static void calls(void) {
     before = connection;
     connection.state = 8;
     HOLDS(meulhaton_take(&connection).refusal == MEULHATON_INVALID_RECORD);
+    unnamed(&connection, MEULHATON_INVALID_RECORD, MEULHATON_INVALID_RECORD);
     connection = before;
+    connection.accepted = 7;
+    unnamed(&connection, MEULHATON_INVALID_RECORD, MEULHATON_INVALID_RECORD);
+    connection = before;
+    unnamed(&connection, MEULHATON_INVALID_FIELD, MEULHATON_UNEXPECTED_REPORT);
+    HOLDS(meulhaton_arrive(&connection, (meulhaton_request){MEULHATON_RUN, 5, -7}).said == MEULHATON_QUEUED);
+    HOLDS(connection.requests[0].kind == MEULHATON_RUN && connection.requests[0].n == 0 && connection.requests[0].qid == 0);
     HOLDS(meulhaton_close(&connection).said == MEULHATON_CLOSED && connection.state == MEULHATON_DEFUNCT);
     HOLDS(meulhaton_close(&connection).refusal == MEULHATON_CONNECTION_DEFUNCT);
+    unnamed(&connection, MEULHATON_CONNECTION_DEFUNCT, MEULHATON_CONNECTION_DEFUNCT);
 }
 
 int main(void) {

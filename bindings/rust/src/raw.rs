@@ -53,7 +53,8 @@ pub struct ValueRead {
     pub head: HeadImage,
 }
 
-/// A request: its tag, and n and qid of DISCARD and PULL.
+/// A request: its tag, and n and qid of DISCARD and PULL. `meulhaton_arrive` refuses a kind that is no request's as it refuses an n out of
+/// its range: with 16, after 24 and 18.
 #[repr(C)]
 #[derive(Clone, Copy, Debug, Default, PartialEq, Eq)]
 pub struct RequestImage {
@@ -143,6 +144,8 @@ pub struct Image {
     pub requests: [RequestImage; 32],
 }
 
+/// How the engine ended a request: success 0, success with more 1, failure 2. `meulhaton_report` refuses any other number with 19, after 24
+/// and 18.
 #[repr(C)]
 #[derive(Clone, Copy, Debug, PartialEq, Eq)]
 pub struct OutcomeImage {

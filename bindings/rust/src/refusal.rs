@@ -36,14 +36,14 @@ impl Refusal {
             13 => "bytes left over after the value",
             14 => "not a known request structure",
             15 => "wrong number of fields",
-            16 => "field or entry wrong",
+            16 => "field or entry wrong, or no request's kind",
             17 => "32 requests wait",
             18 => "connection is DEFUNCT",
-            19 => "nothing in flight, or more for a request that has none",
+            19 => "nothing in flight, more for a request that has none, or no outcome",
             20 => "request limit reached",
             21 => "no room",
             22 => "empty message or chunk size out of range",
-            24 => "record breaks a standing rule, or a number names nothing",
+            24 => "record breaks a standing rule, or its numbers, a version or a summary name nothing",
             _ => "no refusal of this library",
         }
     }

@@ -1,5 +1,5 @@
 //! Each function of the wrapper on cases of document 01. What is refused has to leave the buffer and the record as they were.
-use meulhaton::raw::{Image, RequestImage};
+use meulhaton::raw::{Image, OutcomeImage, Reply, RequestImage, SummaryImage};
 use meulhaton::*;
 
 fn refused(number: u8, place: usize) -> Refusal {
@@ -187,10 +187,69 @@ fn refused_calls_leave_the_record() {
     let full = c.clone();
     assert_eq!(c.arrive(Request::Run), Err(refused(17, 0)));
     assert_eq!(c, full);
-    let answer = unsafe { raw::meulhaton_arrive(&mut full.image().clone(), RequestImage { kind: 0, n: 0, qid: 0 }) };
-    assert_eq!((answer.refusal, answer.said), (24, 0));
     assert_eq!(c.close(), Ok(()));
     assert_eq!(c.waiting(), 0);
+}
+
+/// What every kind and every outcome that names nothing is refused with.
+fn unnamed(image: &Image) -> (u8, u8) {
+    let no_request = RequestImage { kind: 0, n: 0, qid: 0 };
+    let refused = |refusal| Reply {
+        refusal,
+        said: 0,
+        summary: SummaryImage { kind: 0, value: 0 },
+        place: 0,
+        number: 0,
+        request: no_request,
+    };
+    let mut after = image.clone();
+    let first = unsafe { raw::meulhaton_arrive(&mut after, no_request) }.refusal;
+    let second = unsafe { raw::meulhaton_report(&mut after, OutcomeImage { number: 3 }) }.refusal;
+    for number in 0..=u8::MAX {
+        if ![0x01, 0x02, 0x0F, 0x10, 0x11, 0x12, 0x13, 0x2F, 0x3F].contains(&number) {
+            let request = RequestImage { kind: number, n: 1, qid: -1 };
+            assert_eq!(unsafe { raw::meulhaton_arrive(&mut after, request) }, refused(first));
+        }
+        if number > 2 {
+            assert_eq!(unsafe { raw::meulhaton_report(&mut after, OutcomeImage { number }) }, refused(second));
+        }
+    }
+    assert_eq!(&after, image);
+    (first, second)
+}
+
+#[test]
+fn unnamed_kinds_and_outcomes() {
+    let mut c = ready();
+    assert_eq!(unnamed(c.image()), (16, 19));
+    for _ in 0..32 {
+        assert_eq!(c.arrive(Request::Run), Ok(Arrival::Queued));
+    }
+    assert_eq!(unnamed(c.image()), (16, 19));
+    assert_eq!(c.take(), Ok(Taken::Handed { request: Request::Run, number: 2 }));
+    assert_eq!(unnamed(c.image()), (16, 19));
+    let mut broken = c.image().clone();
+    broken.sent += 1;
+    assert_eq!(unnamed(&broken), (24, 24));
+    let mut nameless = c.image().clone();
+    nameless.requests[31].kind = 0;
+    assert_eq!(unnamed(&nameless), (24, 24));
+    assert_eq!(c.close(), Ok(()));
+    assert_eq!(unnamed(c.image()), (18, 18));
+    let mut defunct = c.image().clone();
+    defunct.waiting = 1;
+    assert_eq!(unnamed(&defunct), (24, 24));
+}
+
+// Only DISCARD and PULL carry numbers: what else stands there is not looked at.
+#[test]
+fn numbers_of_other_kinds_never_matter() {
+    let mut image = ready().image().clone();
+    let reply = unsafe { raw::meulhaton_arrive(&mut image, RequestImage { kind: 0x10, n: 0, qid: i64::MIN }) };
+    assert_eq!((reply.refusal, reply.said), (0, 1));
+    let mut c = ready();
+    assert_eq!(c.arrive(Request::Run), Ok(Arrival::Queued));
+    assert_eq!(c.image(), &image);
 }
 
 #[test]

@@ -37,8 +37,8 @@ impl Tally {
 /// The refusals that a comparison of everything must have met.
 pub const REFUSALS: [u8; 23] = [1, 2, 3, 4, 5, 6, 7, 8, 9, 10, 11, 12, 13, 14, 15, 16, 17, 18, 19, 20, 21, 22, 24];
 
-/// The replies that it must have met.
-pub const REPLIES: [&str; 12] = [
+/// The replies that it must have met, and the refusals of a kind or an outcome that names nothing.
+pub const REPLIES: [&str; 18] = [
     "queued",
     "closed",
     "idle",
@@ -51,6 +51,12 @@ pub const REPLIES: [&str; 12] = [
     "full",
     "unknown",
     "failed",
+    "no kind: 16",
+    "no kind: 18",
+    "no kind: 24",
+    "no outcome: 19",
+    "no outcome: 18",
+    "no outcome: 24",
 ];
 
 /// Two sides and what they have been asked so far.

@@ -2,8 +2,8 @@
 
 use crate::compare::{Comparison, Difference};
 use crate::random::Random;
-use crate::sides::{Call, Image, Reply, STATES, Side};
-use reference::connection::{Arrival, Kind, Report, Turn};
+use crate::sides::{Call, Image, Reply, RequestImage, STATES, Side, report};
+use reference::connection::{Arrival, Kind, Turn};
 use reference::pack::{Failure, Summary};
 use reference::request::Batch;
 
@@ -16,9 +16,10 @@ impl<A: Side, B: Side> Comparison<'_, A, B> {
         if refused || (ours.is_ok() && !left.same(right)) {
             return Err(format!("{call:?} on {before_left:?}\n  left:  {left:?}\n  right: {right:?}"));
         }
+        let unnamed = unnamed(call, &ours);
         let reply = self.equal(|| format!("{call:?} on {before_left:?}"), ours, theirs)?;
-        if let Some(reply) = reply {
-            *self.tally.replied.entry(name(&reply)).or_default() += 1;
+        if let Some(name) = reply.as_ref().map(name).or(unnamed) {
+            *self.tally.replied.entry(name).or_default() += 1;
         }
         Ok(())
     }
@@ -70,6 +71,24 @@ fn name(reply: &Reply) -> &'static str {
     }
 }
 
+/// How a call was refused whose kind or outcome names nothing.
+fn unnamed(call: Call, answer: &reference::Result<Reply>) -> Option<&'static str> {
+    let number = answer.as_ref().err()?.number;
+    match call {
+        Call::Arrive(request) if request.kind().is_none() => match number {
+            16 => Some("no kind: 16"),
+            18 => Some("no kind: 18"),
+            _ => Some("no kind: 24"),
+        },
+        Call::Report(outcome) if report(outcome).is_none() => match number {
+            19 => Some("no outcome: 19"),
+            18 => Some("no outcome: 18"),
+            _ => Some("no outcome: 24"),
+        },
+        _ => None,
+    }
+}
+
 /// Takes both records to where counts and numbers end.
 fn move_numbers(random: &mut Random, left: &mut Image, right: &mut Image) {
     let by = (u64::from(u32::MAX) - left.accepted).saturating_sub(random.below(5) as u64);
@@ -105,6 +124,19 @@ struct Client {
 }
 
 impl Client {
+    /// Now and then of a kind that is none, or with numbers that it does not carry.
+    fn request(&mut self, random: &mut Random, image: &Image) -> RequestImage {
+        let Batch { n, qid } = batch(random, image);
+        match random.below(100) {
+            0..=1 => RequestImage { kind: random.pick(&[0x00, 0x03, 0x0E, 0x14, 0x3E, 0x40, 0x70, 0xFF]), n, qid },
+            2 => match self.kind(random, image) {
+                kind @ (Kind::Discard(_) | Kind::Pull(_)) => RequestImage::new(kind),
+                kind => RequestImage { n, qid, ..RequestImage::new(kind) },
+            },
+            _ => RequestImage::new(self.kind(random, image)),
+        }
+    }
+
     fn kind(&mut self, random: &mut Random, image: &Image) -> Kind {
         let batch = batch(random, image);
         if random.once_in(25) {
@@ -140,17 +172,18 @@ impl Client {
     }
 
     fn next_call(&mut self, random: &mut Random, image: &Image) -> Call {
-        let reports = [Report::Success, Report::Success, Report::Success, Report::SuccessWithMore, Report::Failure];
+        let reports = [0, 0, 0, 1, 2];
         match random.below(60) {
             0 if random.once_in(8) => Call::Close,
+            0 if random.once_in(4) => Call::Report(random.pick(&[3, 4, 127, 128, 255])),
             0..=1 => Call::Report(random.pick(&reports)),
             2..=3 => Call::Take,
             _ if image.waiting > 0 && random.below(self.patience + 1) == 0 => match image.in_flight {
                 0 => Call::Take,
                 _ if random.once_in(4) => Call::Report(random.pick(&reports)),
-                _ => Call::Report(Report::Success),
+                _ => Call::Report(0),
             },
-            _ => Call::Arrive(self.kind(random, image)),
+            _ => Call::Arrive(self.request(random, image)),
         }
     }
 }

@@ -1,5 +1,6 @@
 //! The proved library, through its safe wrapper.
 
+use crate::sides;
 use crate::sides::{Asked, Call, Found, Head, Image, Item, Reply, RequestImage, Side, Span, Transaction};
 use meulhaton as proved;
 use reference::connection::{Answer, Arrival, Kind, Report, Turn};
@@ -62,25 +63,56 @@ impl Side for Library {
     fn call(&self, image: &mut Image, call: Call) -> Result<Reply> {
         let mut connection = proved::Connection::from_image(to_image(image));
         let reply = match call {
-            Call::Arrive(kind) => connection.arrive(to_request(kind)).map(|arrival| {
+            Call::Arrive(request) => arrive(&mut connection, request).map(|arrival| {
                 Reply::Arrived(match arrival {
                     proved::Arrival::Queued => Arrival::Queued,
                     proved::Arrival::Closed => Arrival::Closed,
                 })
             }),
             Call::Take => connection.take().map(|taken| Reply::Turned(turn(taken))),
-            Call::Report(report) => connection
-                .report(match report {
-                    Report::Success => proved::Outcome::Success,
-                    Report::SuccessWithMore => proved::Outcome::More,
-                    Report::Failure => proved::Outcome::Failure,
-                })
-                .map(|answered| Reply::Reported(answer(answered))),
+            Call::Report(number) => report(&mut connection, number).map(|answered| Reply::Reported(answer(answered))),
             Call::Close => connection.close().map(|()| Reply::Closed),
         };
         *image = from_image(connection.image());
         reply.map_err(refusal)
     }
+}
+
+/// Through the wrapper where it can say the request, else through the function that it wraps.
+fn arrive(
+    connection: &mut proved::Connection,
+    request: RequestImage,
+) -> std::result::Result<proved::Arrival, proved::Refusal> {
+    if let Some(kind) = request.kind().filter(|&kind| RequestImage::new(kind) == request) {
+        return connection.arrive(to_request(kind));
+    }
+    let mut image = connection.image().clone();
+    // SAFETY: the pointer is that of one whole record, lent to this call alone.
+    let reply = unsafe { proved::raw::meulhaton_arrive(&mut image, to_request_image(request)) };
+    *connection = proved::Connection::from_image(image);
+    match (reply.refusal, reply.said) {
+        (0, 1) => Ok(proved::Arrival::Queued),
+        (0, 2) => Ok(proved::Arrival::Closed),
+        (0, said) => panic!("arrive says {said}"),
+        (number, _) => Err(proved::Refusal { number, place: reply.place as usize }),
+    }
+}
+
+/// The same for an outcome. One that the wrapper cannot say has no answer.
+fn report(connection: &mut proved::Connection, number: u8) -> std::result::Result<proved::Answered, proved::Refusal> {
+    if let Some(outcome) = sides::report(number) {
+        return connection.report(match outcome {
+            Report::Success => proved::Outcome::Success,
+            Report::SuccessWithMore => proved::Outcome::More,
+            Report::Failure => proved::Outcome::Failure,
+        });
+    }
+    let mut image = connection.image().clone();
+    // SAFETY: the pointer is that of one whole record, lent to this call alone.
+    let reply = unsafe { proved::raw::meulhaton_report(&mut image, proved::raw::OutcomeImage { number }) };
+    *connection = proved::Connection::from_image(image);
+    assert_ne!(reply.refusal, 0, "{number} names no outcome, and was answered");
+    Err(proved::Refusal { number: reply.refusal, place: reply.place as usize })
 }
 
 fn refusal(refusal: proved::Refusal) -> Refusal {
@@ -240,10 +272,10 @@ fn to_image(image: &Image) -> proved::raw::Image {
         accepted: image.accepted,
         sent: image.sent,
         streams: image.streams,
-        requests: image.requests.map(|request| proved::raw::RequestImage {
-            kind: request.kind,
-            n: request.n,
-            qid: request.qid,
-        }),
+        requests: image.requests.map(to_request_image),
     }
+}
+
+fn to_request_image(request: RequestImage) -> proved::raw::RequestImage {
+    proved::raw::RequestImage { kind: request.kind, n: request.n, qid: request.qid }
 }

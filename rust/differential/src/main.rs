@@ -87,6 +87,8 @@ mod tests {
         SixteenFields,
         AlwaysIdle,
         LosesCount,
+        BreaksForNoKind,
+        FailsForNoOutcome,
     }
 
     impl Side for Fault {
@@ -157,6 +159,13 @@ mod tests {
             if *self == Fault::AlwaysIdle && call == Call::Take {
                 return Ok(Reply::Turned(reference::connection::Turn::Idle));
             }
+            let call = match call {
+                Call::Arrive(request) if *self == Fault::BreaksForNoKind && request.kind().is_none() => {
+                    return Err(reference::Refusal::new(24));
+                }
+                Call::Report(3..) if *self == Fault::FailsForNoOutcome => Call::Report(2),
+                call => call,
+            };
             let reply = Reference.call(image, call)?;
             if *self == Fault::LosesCount && matches!(reply, Reply::Reported(_)) {
                 image.sent -= 1;
@@ -184,6 +193,8 @@ mod tests {
             SixteenFields,
             AlwaysIdle,
             LosesCount,
+            BreaksForNoKind,
+            FailsForNoOutcome,
         ] {
             assert!(compare(&fault, &Reference, 7, 20).is_err(), "{fault:?}");
         }

@@ -84,11 +84,12 @@ pub struct RequestImage {
     pub qid: i64,
 }
 
+/// A call as C passes it: any kind and any outcome, whether the number names something or not.
 #[derive(Clone, Copy, PartialEq, Eq, Debug)]
 pub enum Call {
-    Arrive(Kind),
+    Arrive(RequestImage),
     Take,
-    Report(Report),
+    Report(u8),
     Close,
 }
 
@@ -189,9 +190,9 @@ impl Side for Reference {
     fn call(&self, image: &mut Image, call: Call) -> Result<Reply> {
         let mut connection = image.connection().ok_or(Refusal::new(Refusal::RULE_BROKEN))?;
         let reply = match call {
-            Call::Arrive(kind) => Reply::Arrived(connection.arrive(kind)?),
+            Call::Arrive(request) => Reply::Arrived(connection.arrive(request.kind())?),
             Call::Take => Reply::Turned(connection.take()?),
-            Call::Report(report) => Reply::Reported(connection.report(report)?),
+            Call::Report(number) => Reply::Reported(connection.report(report(number))?),
             Call::Close => {
                 connection.close()?;
                 Reply::Closed
@@ -212,6 +213,11 @@ pub const STATES: [State; 8] = [
     State::Interrupted,
     State::Defunct,
 ];
+
+/// The outcome of this number, if there is one.
+pub fn report(number: u8) -> Option<Report> {
+    [Report::Success, Report::SuccessWithMore, Report::Failure].get(usize::from(number)).copied()
+}
 
 impl RequestImage {
     pub fn new(kind: Kind) -> Self {

@@ -127,12 +127,12 @@ impl Default for Connection {
 }
 
 impl Connection {
-    /// Queues a request. Refusals: 24, 18, 16, 20, 17.
-    pub fn arrive(&mut self, kind: Kind) -> Result<Arrival> {
+    /// Queues a request; `None` is a kind that is no request's, which is wrong as a number out of its range is. Refusals: 24, 18, 16, 20, 17.
+    pub fn arrive(&mut self, kind: impl Into<Option<Kind>>) -> Result<Arrival> {
         self.usable()?;
-        if !kind.in_range() {
+        let Some(kind) = kind.into().filter(|kind| kind.in_range()) else {
             return Err(Refusal::new(Refusal::FIELD_OR_ENTRY));
-        }
+        };
         if self.accepted == ACCEPTED_MAX {
             return Err(Refusal::new(Refusal::COUNT_EXHAUSTED));
         }
@@ -174,11 +174,13 @@ impl Connection {
         })
     }
 
-    /// The engine's word on the request in flight. Refusals: 24, 18, 19.
-    pub fn report(&mut self, report: Report) -> Result<Answer> {
+    /// The engine's word on the request in flight; `None` is a word that fits no request. Refusals: 24, 18, 19.
+    pub fn report(&mut self, report: impl Into<Option<Report>>) -> Result<Answer> {
         self.usable()?;
-        let kind = match self.requests().first() {
-            Some(&kind) if self.in_flight && (report != Report::SuccessWithMore || kind.is_batch()) => kind,
+        let (report, kind) = match (report.into(), self.requests().first()) {
+            (Some(report), Some(&kind)) if self.in_flight && (report != Report::SuccessWithMore || kind.is_batch()) => {
+                (report, kind)
+            }
             _ => return Err(Refusal::new(Refusal::NOT_IN_FLIGHT)),
         };
         self.in_flight = false;
@@ -529,6 +531,30 @@ mod tests {
         assert_eq!(full.arrive(pull(-2)), Err(Refusal::new(16)));
         full.sent += 1;
         assert_eq!(full.arrive(pull(-2)), Err(Refusal::new(24)));
+    }
+
+    #[test]
+    fn no_kind_and_no_outcome() {
+        let mut connection = after(&[Hello]);
+        for _ in 0..32 {
+            connection.arrive(Run).unwrap();
+        }
+        connection.take().unwrap();
+        assert_eq!(connection.arrive(None), Err(Refusal::new(16)));
+        assert_eq!(connection.report(None), Err(Refusal::new(19)));
+        connection.accepted = ACCEPTED_MAX;
+        connection.sent = ACCEPTED_MAX - 32;
+        assert_eq!(connection.arrive(None), Err(Refusal::new(16)));
+        let mut broken = connection;
+        broken.sent += 1;
+        assert_eq!(broken.arrive(None), Err(Refusal::new(24)));
+        assert_eq!(broken.report(None), Err(Refusal::new(24)));
+        connection.close().unwrap();
+        assert_eq!(connection.arrive(None), Err(Refusal::new(18)));
+        assert_eq!(connection.report(None), Err(Refusal::new(18)));
+        connection.waiting_count = 1;
+        assert_eq!(connection.arrive(None), Err(Refusal::new(24)));
+        assert_eq!(connection.report(None), Err(Refusal::new(24)));
     }
 
     #[test]
