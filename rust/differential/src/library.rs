@@ -1,4 +1,4 @@
-//! The proved library, through its safe wrapper.
+//! The proved library, through its safe wrapper; what the wrapper cannot say, through the functions that it wraps.
 
 use crate::sides;
 use crate::sides::{Asked, Call, Found, Head, Image, Item, Reply, RequestImage, Side, Span, Transaction};
