@@ -22,7 +22,7 @@ use Rattle.connection.specs.Requests.{rank, inState, inRange, any}
 use Rattle.connection.specs.Table as T
 use Rattle.connection.specs.Table.{Table, Call, Said, Done, start, step, unlessDefunct, arriveT, reportT, fitting, reportFirst}
 use Rattle.connection.specs.Record.{After, keepsRules, kept, carried, called, fresh}
-use Rattle.connection.specs.Claim.{callOf, Event, run, events, leftBy, runT}
+use Rattle.connection.specs.Claim.{callOf, run, events, leftBy, runT}
 use Rattle.connection.proofs.Bools.{by-test}
 use Rattle.connection.proofs.Calls.{broken, standing, few}
 use Rattle.connection.proofs.Demand3.{demand3}
