@@ -27,7 +27,7 @@ use Rattle.values.specs.Decode.{parsed, leafValue, leafAt, items, repeats, keyA
 use Rattle.markers.specs.Extents.{mostOpen}
 use Rattle.bolt.specs.Limits.{mostBytes}
 use Rattle.packing.specs.Packing.{doublings, wide, packBoolean, packFloat, isTiny, integerWidth, packInteger, sizeWidth, sizeHeader, packBytes, stringHeader, packString, listHeader, dictionaryHeader, structureHeader, pack, packItems, packEntries}
-use Rattle.packstream.specs.RoundTrip.{validText, packable, packableItems, packableEntries, located, locatedItems, locatedEntries, RoundTrip}
+use Rattle.packstream.specs.RoundTrip.{validText, packable, packableItems, packableEntries, located, locatedItems, locatedEntries, Claim}
 use Rattle.markers.specs.declared.kind.Leaf.the-variants as L
 use Rattle.markers.specs.declared.kind.Container.the-variants as C
 use Rattle.markers.specs.declared.marker.Kind.{Kind}
@@ -312,7 +312,7 @@ module _ (v : Value) where
   alone : (depth : ℕ) → packable depth v ≡ true → valueAt (pack v) depth 0 ≡ parsed (located 0 v) (0 + length (pack v))
   alone depth p = read-value v depth p (here-alone (pack v))
 
-pub round-trip : (v : Value) → RoundTrip v
+pub round-trip : Claim
 round-trip v =
     record {
       read-back = λ before after depth p. read-value v depth p (here before (pack v) after);

@@ -3,8 +3,7 @@ use mathlib.Core.Path.{_≡_, refl, sym, ap, _∙_, subst}
 use mathlib.Core.List.{List, [], _∷_, _++_}
 use Prim.Native.Nat.{ℕ, zero, suc, _+_, _≤_}
 use native.Mathlib.Omega.{arith}
-use borrow.Author.Tests.{eqb-true}
-use lib.Dec.{ltb, eqb}
+use lib.Dec.{ltb}
 use lib.IntN.{ℤ}
 use lib.ListN.{length, getD, length-append}
 use lib.Seq.{take-all}
@@ -18,10 +17,9 @@ use Rattle.refusal.specs.Answer.{result}
 use Rattle.refusal.specs.declared.Refusal.the-variants.{TooDeep}
 use Rattle.markers.specs.Value.{Value, null, boolean, integer, float, bytes, string, list, dictionary, structure, Items, no-items, item, count, Entries, no-entries, entry, countEntries, relocate, relocateItems, relocateEntries, forget}
 use Rattle.markers.specs.Extents.{extentAt, keyExtentAt, mostOpen}
-use Rattle.bolt.specs.Limits.{mostBytes}
-use Rattle.values.specs.Decode.{Parse, parsed, failed, andThen, mapped, leafValue, leafAt, isText, items, repeats, KeyText, keyOf, keyAt, entries, containerAt, valueOf, valueAt, whole, valueIn, messageOf, answerOf, decode}
+use Rattle.values.specs.Decode.{Parse, parsed, failed, leafValue, leafAt, isText, items, repeats, KeyText, keyOf, keyAt, entries, containerAt, valueOf, valueAt, decode}
 use Rattle.packing.specs.Packing.{wide, headerLength, packString, listHeader, dictionaryHeader, pack, packItems, packEntries}
-use Rattle.packstream.specs.Shortest.{Shortest, IntegerForm, itself, behind, IntegerForms}
+use Rattle.packstream.specs.Shortest.{Shortest, IntegerForm, itself, behind, IntegerForms, Claim}
 use Rattle.markers.specs.declared.kind.Leaf.{Leaf}
 use Rattle.markers.specs.declared.kind.Leaf.the-variants as L
 use Rattle.markers.specs.declared.kind.Container.{Container}
@@ -33,27 +31,9 @@ use Rattle.markers.proofs.Extents.{Inside, LeafInside, extent-inside, key-insid
 use Rattle.packing.proofs.Packing.{length-wide, length-header}
 use Rattle.packstream.proofs.Here.{here-alone}
 use Rattle.packstream.proofs.Headers.{Header, by-test, Headed, KeyHeaded, headed, key-headed}
+use Rattle.packstream.proofs.Ends.{Ends, ends-then, ends-mapped, ends-any, decoded}
 use Rattle.packstream.proofs.Forms.{Formed, integer-formed, list-least, dictionary-least, structure-least, string-least, leaf-least}
 use Rattle.packstream.proofs.RoundTrip.{read-tiny, read-wide, read-whole}
-
--- ---- what is read, if anything is
-abbrev Ends : {A : Type 0} → Parse A → (A → ℕ → Type 0) → Type 0
-Ends (parsed a end) P = P a end
-Ends (failed why place) P = Unit {0}
-
-ends-then : {A B : Type 0} {P : A → ℕ → Type 0} (Q : B → ℕ → Type 0) (x : Parse A) (f : A → ℕ → Parse B) → Ends x P
-    → ((a : A) (end : ℕ) → P a end → Ends (f a end) Q) → Ends (andThen x f) Q
-ends-then Q (parsed a end) f h g = g a end h
-ends-then Q (failed why place) f h g = tt
-
-ends-mapped : {A B : Type 0} {P : A → ℕ → Type 0} (Q : B → ℕ → Type 0) (f : A → B) (x : Parse A) → Ends x P
-    → ((a : A) (end : ℕ) → P a end → Q (f a) end) → Ends (mapped f x) Q
-ends-mapped Q f (parsed a end) h g = g a end h
-ends-mapped Q f (failed why place) h g = tt
-
-ends-any : {A : Type 0} (x : Parse A) → Ends x (λ a end. Unit {0})
-ends-any (parsed a end) = tt
-ends-any (failed why place) = tt
 
 -- an Integer has one of its forms
 abbrev FormedAt : List ℕ → ℕ → Value → ℕ → Type 0
@@ -167,28 +147,6 @@ module _ (s : List ℕ) (bs : Bytes s) where
       by-depth zero = by (λ p. failed TooDeep p) (extentAt s zero at) (headed s at zero) (extent-inside s at zero)
       by-depth (suc depth) = by (λ p. valueAt s depth p) (extentAt s (suc depth) at) (headed s at (suc depth)) (extent-inside s at (suc depth))
 
--- ---- messages
--- what is all of a message
-whole-ends : (P : Value → ℕ → Type 0) (size : ℕ) (x : Parse Value) → Ends x P → Ends (whole size x) (λ v end. P v size)
-whole-ends P size (parsed v end) h =
-    by-test (λ y. Ends y (λ v end. P v size)) (eqb end size) _ _ (λ e. subst (P v) (eqb-true end size e) h) (λ e. tt)
-whole-ends P size (failed why place) h = tt
-
-message-ends : (P : Value → ℕ → Type 0) (l : List ℕ) → Ends (valueAt l mostOpen 0) P → Ends (messageOf l) (λ v end. P v (length l))
-unfolding messageOf valueIn
-message-ends P l h =
-    whole-ends P (length l) (valueIn l mostOpen 0) (by-test (λ y. Ends y P) (ltb mostBytes (length l)) _ _ (λ e. tt) (λ e. h))
-
-decoded : (P : Value → ℕ → Type 0) (l : List ℕ) (v : Value) → Ends (valueAt l mostOpen 0) P → decode l ≡ result v → P v (length l)
-decoded P l v h e = by (messageOf l) (message-ends P l h) e
-  where
-    by : (x : Parse Value) → Ends x (λ v end. P v (length l)) → answerOf x ≡ result v → P v (length l)
-    by (parsed w end) g e = let k : w ≡ v = cc in subst (λ (x : Value). P x (length l)) k g
-    by (failed why place) g e = let z : _≡_ {A = ℕ} 0 1 = cc in absurd (never z)
-      where
-        never : _≡_ {A = ℕ} 0 1 → ⊥
-        never z = omega arith
-
 -- ---- offsets take no bytes
 mutual
   unfolding relocate relocateItems relocateEntries pack packItems packEntries count countEntries
@@ -227,7 +185,7 @@ same-pack v w e = sym (pack-forget w) ∙ ap pack e ∙ pack-forget v
 pub shortest : (v : Value) → Shortest v
 shortest v =
     record {
-      message = λ l w bs e f. rw (same-pack v w f) at (decoded (λ w end. length (pack w) ≤ end) l w (least l bs) e);
+      message = λ l w bs e f. rw (same-pack v w f) at (decoded (λ w end. length (pack w) ≤ end) l w (λ short. least l bs) e);
       part = λ s depth at end w bs e f. rw (same-pack v w f) at (rw e at (value-least s bs depth at));
     }
   where
@@ -242,7 +200,7 @@ pub integer-forms : (z : ℤ) (l : List ℕ) → IntegerForms z l
 integer-forms z l =
     record {
       accepted = λ f. accepts f;
-      listed = λ bs e. lists (decoded (FormedAt l 0) l (integer z) (value-formed l bs mostOpen 0) e);
+      listed = λ bs e. lists (decoded (FormedAt l 0) l (integer z) (λ short. value-formed l bs mostOpen 0) e);
     }
   where
     accepts : {l : List ℕ} → IntegerForm z l → decode l ≡ result (integer z)
@@ -255,3 +213,6 @@ integer-forms z l =
 
     lists : Formed l 0 z (length l) → IntegerForm z l
     lists f = subst (IntegerForm z) (sym (f .is) ∙ take-all (length (f .bytes)) l (omega (arith, f .ends))) (f .form)
+
+pub claim : Claim
+claim = record { shortest = shortest; integer-forms = integer-forms }

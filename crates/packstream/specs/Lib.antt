@@ -1,3 +1,4 @@
 pub mod RoundTrip
 pub mod Shortest
+pub mod Sound
 pub mod Cases

@@ -86,3 +86,7 @@ pub record RoundTrip (v : Value) : Type 0 where
   pub same : (at : ℕ) → forget (located at v) ≡ forget v
   -- so values that differ in more than offsets have forms that differ
   pub distinct : (w : Value) (depth : ℕ) → packable depth v ≡ true → packable depth w ≡ true → pack v ≡ pack w → forget v ≡ forget w
+
+-- of every value
+abbrev pub Claim : Type 0
+Claim = (v : Value) → RoundTrip v

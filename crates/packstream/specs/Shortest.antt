@@ -29,3 +29,8 @@ pub data IntegerForm (z : ℤ) : List ℕ → Type 0 where
 pub record IntegerForms (z : ℤ) (l : List ℕ) : Type 0 where
   pub accepted : IntegerForm z l → decode l ≡ result (integer z)
   pub listed : Bytes l → decode l ≡ result (integer z) → IntegerForm z l
+
+-- of every value, and of every Integer and all bytes
+pub record Claim : Type 0 where
+  pub shortest : (v : Value) → Shortest v
+  pub integer-forms : (z : ℤ) (l : List ℕ) → IntegerForms z l
