@@ -8,11 +8,12 @@ use Rattle.refusal.specs.Answer.{Answer, result, refused, Placed, andThen}
 use Rattle.refusal.proofs.Answer.{placed-cond, anywhere}
 use Rattle.markers.specs.Value.{Value, null, boolean, integer, float, bytes, string, list, dictionary, structure, Items, no-items, item, Entries}
 use Rattle.values.specs.Decode.{decode}
-use Rattle.values.proofs.Places.{message-placed}
+use Rattle.values.proofs.Places.{places as values-places}
 use Rattle.entries.specs.Names as Name
 use Rattle.entries.specs.View.{seen, absent, under, Lookup}
 use Rattle.requests.specs.Checks.{wrong, stringAt, stringIn, dictionaryAt, dictionaryIn, unlessItem, listOfStringsAt, listOfStringsIn, unlessNone, modeAt, modeIn, integerAt, integerIn, inRange, requiredText, requiredNumber}
-use Rattle.requests.specs.Requests.{hello, transaction, batch, asks, entriesOf, extra, run, none, one, three, tagged, requestIn, requestOf}
+use Rattle.requests.specs.Requests.{hello, transaction, batch, asks, entriesOf, extra, run, none, one, three, tagged, requestIn}
+use Rattle.requests.specs.Places.{Claim}
 use Rattle.entries.specs.declared.view.Text.{Text}
 use Rattle.entries.specs.declared.view.Text.the-variants as T
 use Rattle.entries.specs.declared.view.Place.{Place}
@@ -199,5 +200,5 @@ request-in minor (list vs) = anywhere 0
 request-in minor (dictionary es) = anywhere 0
 
 -- a request's refusals
-pub request-placed : (minor : ℕ) (s : List ℕ) → Placed (requestOf minor (decode s))
-request-placed minor s = and-then (decode s) (requestIn minor) (message-placed s) (request-in minor)
+pub places : Claim
+places minor s = and-then (decode s) (requestIn minor) (values-places .message s) (request-in minor)

@@ -1,4 +1,5 @@
 pub mod Checks
 pub mod Requests
+pub mod Places
 pub mod Cases
 pub mod Private

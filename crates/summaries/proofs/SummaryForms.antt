@@ -23,7 +23,7 @@ use Rattle.connection.specs.declared.answers.Failure.the-variants as F
 use Rattle.connection.specs.declared.answers.Summary.{Summary}
 use Rattle.connection.specs.declared.answers.Summary.the-variants as S
 use Rattle.summaries.specs.Summaries.{structureOf, packSummary}
-use Rattle.summaries.specs.SummaryForms.{isNumbered, SummaryForm}
+use Rattle.summaries.specs.SummaryForms.{isNumbered, Claim}
 use Rattle.summaries.proofs.Summaries.{ignored-form, success-form, has-more-size, integer-behind, stream-size, failure-form}
 
 -- ---- the Structures
@@ -123,7 +123,7 @@ sized (S.Failure F.StreamsFull) = let e = ap length (failure-form F.StreamsFull)
 sized (S.Failure F.StreamUnknown) = let e = ap length (failure-form F.StreamUnknown) in record { low = omega (arith, e); high = omega (arith, e) }
 sized (S.Failure F.EngineFailed) = let e = ap length (failure-form F.EngineFailed) in record { low = omega (arith, e); high = omega (arith, e) }
 
-pub summary-form : (s : Summary) → SummaryForm s
+pub summary-form : Claim
 summary-form s =
     let v = structureOf s in
     record {

@@ -36,3 +36,7 @@ pub record SummaryForm (s : Summary) : Type 0 where
   pub shortest : (l : List ℕ) (w : Value) → Bytes l → decode l ≡ result w → forget w ≡ structureOf s → length (packSummary s) ≤ length l
   -- summaries that differ have forms that differ
   pub distinct : (t : Summary) → isNumbered s ≡ true → isNumbered t ≡ true → packSummary s ≡ packSummary t → s ≡ t
+
+-- of every summary
+abbrev pub Claim : Type 0
+Claim = (s : Summary) → SummaryForm s

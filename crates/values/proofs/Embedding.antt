@@ -23,7 +23,7 @@ use Rattle.markers.specs.Marker.{markerOf}
 use Rattle.markers.specs.Private.Sizes.{hasSize}
 use Rattle.values.specs.Decode.{Parse, parsed, mapped, isText, leafValue, KeyText, repeats, keyAt, items, entries, valueAt}
 use Rattle.markers.specs.Extents.{sizeAt, extentAt, keyExtentAt}
-use Rattle.values.specs.Private.Embedding.{Lies, ReadAlike}
+use Rattle.values.specs.Private.Embedding.{Lies, ReadAlike, Claim}
 use Rattle.markers.specs.declared.kind.Leaf.{Leaf}
 use Rattle.markers.specs.declared.kind.Leaf.the-variants as L
 use Rattle.markers.specs.declared.kind.Container.{Container}
@@ -221,8 +221,8 @@ module _ (s t : List ℕ) (k : ℕ) (lies : Lies s t k) where
         ∙ rw (lt-ltb (k + p) (length t) (omega (arith, lies .inside, r)), byte p r, c)
         (ap (mapped (Tree.structure (getD s p 0))) (items-embed (valueAt s (d - 1)) (valueAt t (e - 1)) (inner one) n (p + 1) vs end h)))
 
-  -- every value is read alike
-  pub value-embeds : ReadAlike s t k
+  -- every value
+  value-embeds : ReadAlike s t k
   value-embeds zero e l at v q f = value-step zero e l (λ h p w r g. absurd (none h)) at (value-tells s zero at) v q f
     where
       none : 1 ≤ 0 → ⊥
@@ -230,6 +230,10 @@ module _ (s t : List ℕ) (k : ℕ) (lies : Lies s t k) where
   value-embeds (suc d) e l at v q f =
       let m : suc d - 1 ≡ d = omega arith in
       value-step (suc d) e l (λ h p w r g. value-embeds d (e - 1) (omega arith) p w r (rw m at g)) at (value-tells s (suc d) at) v q f
+
+-- every value is read alike
+pub embedding : Claim
+embedding s t k lies = value-embeds s t k lies
 
 -- ---- a value with others after it, and with more room
 none-before : (n : ℕ) → 0 + n ≡ n
@@ -242,7 +246,7 @@ module _ (s t : List ℕ) (lies : Lies s t 0) (d e : ℕ) (l : d ≤ e) (at : �
   -- the end of a value does not depend on what follows it, nor on how much room there is
   pub value-in-front : (v : Value) (q : ℕ) → valueAt s d at ≡ parsed v q → valueAt t e at ≡ parsed v q
   value-in-front v q f =
-      let g = value-embeds s t 0 lies d e l at v q f in
+      let g = embedding s t 0 lies d e l at v q f in
       ap (valueAt t e) (sym (none-before at)) ∙ g ∙ ap₂ (λ (w : Value) (n : ℕ). parsed w n) (relocate-same (λ n. 0 + n) none-before v) (none-before q)
 
 module _ (s : List ℕ) (d e at : ℕ) where

@@ -12,7 +12,7 @@ use Rattle.values.specs.Decode.{Parse, parsed, failed, leafValue, KeyTex
 use Rattle.markers.specs.Extents.{extentAt, mostOpen}
 use Rattle.values.specs.Reading.{headOf}
 use Rattle.values.specs.Walk.{peekAt, skipThen, past, skipWithin}
-use Rattle.values.specs.Private.Placement.{Reads, ItemsLie, ContentLies, KeyLies, EntriesLie, PartsLie, Placement}
+use Rattle.values.specs.Private.Placement.{ItemsLie, ContentLies, KeyLies, EntriesLie, PartsLie, Claim}
 use Rattle.markers.specs.declared.kind.Leaf.{Leaf}
 use Rattle.markers.specs.declared.kind.Leaf.the-variants as L
 use Rattle.markers.specs.declared.kind.Container.the-variants as C
@@ -192,14 +192,14 @@ module _ (s : List ℕ) where
         rw (items-count (valueAt s (d - 1)) n (p + 1) vs end h .1) (items-lie (d - 1) n (p + 1) vs end h)
     parts-step (Steps.none why place) = tt
 
-    -- every value that is read lies as `specs/Placement.antt` states
-    pub placement : d ≤ mostOpen → (v : Value) (end : ℕ) → Reads s d at v end → Placement s d at v end
-    placement l v end e =
-        let b = value-bounds s d at v end e in
-        record {
-          past = b .0;
-          inside = b .1;
-          peeked = peek-step d at l (value-tells s d at) v end e;
-          skipped = skip-reads d mostOpen l at v end e;
-          parts = subst ParsedParts e (parts-step (value-tells s d at));
-        }
+-- ---- every value
+pub placement : Claim
+placement s d at l v end e =
+    let b = value-bounds s d at v end e in
+    record {
+      past = b .0;
+      inside = b .1;
+      peeked = peek-step s d at l (value-tells s d at) v end e;
+      skipped = skip-reads s d mostOpen l at v end e;
+      parts = subst (ParsedParts s d at) e (parts-step s d at (value-tells s d at));
+    }

@@ -26,6 +26,7 @@ use Rattle.markers.specs.declared.extent.Extent.the-variants as E
 use Rattle.markers.specs.Extents.{sizeAt, onSize, leafExtent, containerExtent, kindExtent, extentAt, keyKindExtent, keyExtentAt, mostOpen}
 use Rattle.bolt.specs.Limits.{mostBytes}
 use Rattle.values.specs.Decode.{Parse, parsed, failed, andThen, mapped, leafValue, isText, leafAt, items, repeats, KeyText, keyOf, keyAt, entries, containerAt, valueOf, valueAt, valueIn, whole, messageOf, answerOf, decode}
+use Rattle.values.specs.Places.{Claim}
 
 -- ---- extents
 abbrev PlacedExtent : Extent → Type 0
@@ -159,7 +160,9 @@ whole-placed : (size : ℕ) (g : Parse Value) → PlacedParse g → PlacedParse 
 whole-placed size (parsed v end) p = picked (eqb end size) (parsed v end) (failed TrailingBytes end) tt (anywhere end)
 whole-placed size (failed why place) p = p
 
--- a message's refusals
-pub message-placed : (s : List ℕ) → Placed (decode s)
+message-placed : (s : List ℕ) → Placed (decode s)
 unfolding messageOf
 message-placed s = whole-placed (length s) (valueIn s mostOpen 0) (value-in-placed s mostOpen 0)
+
+pub places : Claim
+places = record { message = message-placed; value = value-in-placed }

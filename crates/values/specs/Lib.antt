@@ -1,4 +1,5 @@
 pub mod Decode
 pub mod Private
 pub mod Reading
+pub mod Places
 pub mod Walk

@@ -17,3 +17,7 @@ abbrev pub ReadAlike : List ℕ → List ℕ → ℕ → Type 0
 ReadAlike s t k =
     (depth more : ℕ) → depth ≤ more → (at : ℕ) (v : Value) (end : ℕ) → Reads s depth at v end
     → Reads t more (k + at) (relocate (λ n. k + n) v) (k + end)
+
+-- of all bytes that lie in others
+abbrev pub Claim : Type 0
+Claim = (s t : List ℕ) (k : ℕ) → Lies s t k → ReadAlike s t k

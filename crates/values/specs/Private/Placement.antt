@@ -6,6 +6,7 @@ use Prim.Native.Nat.{ℕ, _+_, _-_, _≤_, _<_}
 use lib.ListN.{length}
 use Rattle.slices.specs.Parts.{part}
 use Rattle.markers.specs.Value.{Value, null, boolean, integer, float, bytes, string, list, dictionary, structure, Items, no-items, item, Entries, no-entries, entry, first, firstEntry}
+use Rattle.markers.specs.Extents.{mostOpen}
 use Rattle.values.specs.Decode.{parsed, valueAt}
 use Rattle.values.specs.Reading.{headOf}
 use Rattle.values.specs.Walk.{peekAt, skipAt}
@@ -52,7 +53,7 @@ PartsLie s depth (list vs) end = ItemsLie s (depth - 1) (first vs end) vs end
 PartsLie s depth (dictionary es) end = EntriesLie s (depth - 1) (firstEntry es end) es end
 PartsLie s depth (structure tag vs) end = ItemsLie s (depth - 1) (first vs end) vs end
 
--- what holds of every value that is read with room for at most 16 open containers
+-- where a value lies that is read from `at` to `end`
 pub record Placement (s : List ℕ) (depth at : ℕ) (v : Value) (end : ℕ) : Type 0 where
   pub past : at < end
   pub inside : end ≤ length s
@@ -60,3 +61,7 @@ pub record Placement (s : List ℕ) (depth at : ℕ) (v : Value) (end : ℕ) : T
   pub peeked : P.Value (headOf v end) ≡ peekAt s at
   pub skipped : S.To end ≡ skipAt s at
   pub parts : PartsLie s depth v end
+
+-- of every value that is read with room for at most 16 open containers
+abbrev pub Claim : Type 0
+Claim = (s : List ℕ) (depth at : ℕ) → depth ≤ mostOpen → (v : Value) (end : ℕ) → Reads s depth at v end → Placement s depth at v end
