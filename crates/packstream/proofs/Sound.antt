@@ -1,15 +1,16 @@
 -- What is read can be packed. Assumes nothing.
-use mathlib.Core.Path.{_≡_, refl, sym, ap, subst}
+use mathlib.Core.Path.{_≡_, refl, sym, ap, _∙_, subst}
 use mathlib.Core.Logic.{_⊎_, inl, inr, ⊎-elim}
-use mathlib.Core.Bool.{Bool, true, false, cond, not, _&&_, and-eq-true-iff}
+use mathlib.Core.Bool.{Bool, true, false, true≢false, false≢true, cond, not, _&&_, _||_, and-eq-true-iff}
 use mathlib.Core.List.{List, [], _∷_}
 use Prim.Native.Nat.{ℕ, zero, suc, _+_, _^_, _≤_, _<_}
 use native.Mathlib.Omega.{arith}
-use borrow.Author.Tests.{lt-ltb, leb-true, eqb-true}
+use borrow.Author.Tests.{lt-ltb, leb-true, eq-eqb, eqb-true, not-true}
 use lib.Dec.{ltb, leb, eqb}
 use lib.IntN.{ℤ}
 use lib.ListN.{length, getD}
 use Rattle.slices.specs.Parts.{part}
+use Rattle.slices.specs.Equality.{same}
 use Rattle.slices.proofs.Parts.{length-part}
 use Rattle.slices.proofs.Below.{below}
 use Rattle.numbers.specs.BigEndian.{bigEndian, holds, Bytes}
@@ -22,7 +23,7 @@ use Rattle.numbers.proofs.Access.{unsigned-found, lies-lt, width-most}
 use Rattle.utf8.specs.Utf8.{utf8}
 use Rattle.refusal.specs.Answer.{result}
 use Rattle.refusal.specs.declared.Refusal.the-variants.{TooDeep}
-use Rattle.markers.specs.Value.{Value, list, dictionary, structure, Items, item, count, Entries, entry, countEntries}
+use Rattle.markers.specs.Value.{Value, list, dictionary, structure, Items, item, count, Entries, no-entries, entry, countEntries}
 use Rattle.markers.specs.Marker.{lookup, markerOf}
 use Rattle.markers.specs.Extents.{extentAt, keyExtentAt, mostOpen}
 use Rattle.markers.specs.declared.kind.Leaf.{Leaf}
@@ -39,7 +40,7 @@ use Rattle.bolt.specs.Limits.{mostBytes}
 use Rattle.values.specs.Decode.{Parse, parsed, failed, isText, leafValue, leafAt, items, repeats, KeyText, keyOf, keyAt, entries, containerAt, valueOf, valueAt, decode}
 use Rattle.packing.specs.Packing.{pack}
 use Rattle.packstream.specs.RoundTrip.{validText, packable, packableItems, packableEntries, located}
-use Rattle.packstream.specs.Sound.{Claim}
+use Rattle.packstream.specs.Sound.{Unlike, Distinct, Claim}
 use Rattle.packstream.proofs.Headers.{Header, by-test, Headed, KeyHeaded, headed, key-headed}
 use Rattle.packstream.proofs.Ends.{Ends, ends-then, ends-mapped, decoded}
 use Rattle.packstream.proofs.RoundTrip.{round-trip}
@@ -222,9 +223,70 @@ module _ (s : List ℕ) (bs : Bytes s) where
   value-packable zero at = shut-packable at
   value-packable (suc depth) at = open-packable depth (λ p. valueAt s depth p) (λ p. value-packable depth p) at
 
+-- ---- keys
+same-itself : (l : List ℕ) → same l l ≡ true
+unfolding same
+same-itself [] = refl
+same-itself (b ∷ l) = both (eqb b b) (same l l) (eq-eqb b b refl) (same-itself l)
+
+or-false : (a b : Bool) → (a || b) ≡ false → (a ≡ false) × (b ≡ false)
+or-false true b e = absurd (true≢false e)
+or-false false b e = (refl, e)
+
+-- a key that repeats none of those seen is not k
+abbrev Seen : List ℕ → List (List ℕ) → Type 0
+Seen k seen = (key : List ℕ) → repeats key seen ≡ false → key ≡ k → ⊥
+
+seen-now : (k : List ℕ) (seen : List (List ℕ)) → Seen k (k ∷ seen)
+unfolding repeats
+seen-now k seen key r e =
+    let f : same k key ≡ false = or-false (same k key) (repeats key seen) r .0 in
+    true≢false (sym (same-itself k) ∙ ap (same k) (sym e) ∙ f)
+
+seen-before : (k j : List ℕ) (seen : List (List ℕ)) → Seen k seen → Seen k (j ∷ seen)
+unfolding repeats
+seen-before k j seen h key r e = h key (or-false (same j key) (repeats key seen) r .1) e
+
+-- what packable entries tell of the first of them
+module _ (depth : ℕ) (seen : List (List ℕ)) (key : List ℕ) (v : Value) (es : Entries) where
+  abbrev rest : Bool
+  rest = packable depth v && packableEntries depth (key ∷ seen) es
+
+  first-new : ((validText key && not (repeats key seen)) && rest) ≡ true → (repeats key seen ≡ false) × (packableEntries depth (key ∷ seen) es ≡ true)
+  first-new p =
+      let a = and-eq-true-iff (validText key && not (repeats key seen)) rest .0 p in (
+        not-true (repeats key seen) (and-eq-true-iff (validText key) (not (repeats key seen)) .0 (a .0) .1),
+        and-eq-true-iff (packable depth v) (packableEntries depth (key ∷ seen) es) .0 (a .1) .1,
+      )
+
+unlike : (es : Entries) (depth : ℕ) (seen : List (List ℕ)) (k : List ℕ) → Seen k seen → packableEntries depth seen es ≡ true → Unlike k es
+unfolding packableEntries Unlike
+unlike no-entries depth seen k h p = tt
+unlike (entry at start key place v es) depth seen k h p =
+    let f = first-new depth seen key v es p in
+    (h key (f .0), unlike es depth (key ∷ seen) k (seen-before k key seen h) (f .1))
+
+distinct : (es : Entries) (depth : ℕ) (seen : List (List ℕ)) → packableEntries depth seen es ≡ true → Distinct es
+unfolding packableEntries Distinct
+distinct no-entries depth seen p = tt
+distinct (entry at start key place v es) depth seen p =
+    let f = first-new depth seen key v es p in
+    (unlike es depth (key ∷ seen) key (seen-now key seen) (f .1), distinct es depth (key ∷ seen) (f .1))
+
+distinct-keys : (depth : ℕ) (es : Entries) → packable depth (dictionary es) ≡ true → Distinct es
+unfolding packable
+distinct-keys zero es p = absurd (false≢true p)
+distinct-keys (suc depth) es p = distinct es depth [] (and-eq-true-iff (holds 4 (countEntries es)) (packableEntries depth [] es) .0 p .1)
+
 -- ---- messages
 pub sound : Claim
-sound = record { part = read; message = accepted; again = again }
+sound =
+    record {
+      part = read;
+      message = accepted;
+      again = again;
+      keys = λ s depth at end es bs e. distinct-keys depth es (read s depth at end (dictionary es) bs e);
+    }
   where
     read : (s : List ℕ) (depth at end : ℕ) (v : Value) → Bytes s → valueAt s depth at ≡ parsed v end → packable depth v ≡ true
     read s depth at end v bs e = rw e at (value-packable s bs depth at)
