@@ -2,13 +2,15 @@
 use mathlib.Core.Path.{_≡_, refl, sym, ap, _∙_, subst}
 use mathlib.Core.Bool.{Bool, true, false, cond, true≢false, _||_}
 use mathlib.Core.List.{List, [], _∷_, _++_, map, append-assoc, append-nil}
+use mathlib.Core.Option.{Option, none, some}
 use mathlib.Core.Logic.{⊎-elim, _⊎_, inl, inr}
 use Prim.Native.Nat.{ℕ, _+_, _-_}
 use native.Mathlib.Nat.{add-zero, zero-add}
+use native.Mathlib.Numerals.{add-one}
 use native.Mathlib.Omega.{arith}
 use lib.Dec.{leb}
 use lib.ListN.{length, take, length-append}
-use lib.Seq.{length-sets}
+use lib.Seq.{length-sets, drop-at}
 use borrow.Author.Tests.{le-leb}
 use Rattle.refusal.specs.Answer.{Answer, result, refused}
 use Rattle.connection.specs.declared.record.State.{State}
@@ -25,10 +27,10 @@ use Rattle.connection.specs.Requests.{kindOf, inState, is, inRange, any}
 use Rattle.bolt.specs.Requests.{RESET}
 use Rattle.connection.specs.Appendix.{newState}
 use Rattle.connection.specs.Table as T
-use Rattle.connection.specs.Table.{Open, Table, Call, Said, Done, start, step, defunct, accept, turnOf, answer, taken, takeFirst, response, streamsAfter, reported, fitting, reportFirst}
+use Rattle.connection.specs.Table.{Open, Table, Call, Said, Done, start, step, defunct, enqueued, accept, turnOf, answer, taken, takeFirst, response, streamsAfter, reported, fitting, reportFirst}
 use Rattle.connection.specs.Record.{After, kept, put, slot, keepsRules, carried, called, fresh}
 use Rattle.connection.specs.Rules.{isHanded}
-use Rattle.connection.specs.Claim.{callOf, Event, run, events, saidBy, leftBy, runT, eventsT, acceptedBy, requests, Numbered, pairedWith, summaryBy, summaries, numbered, wronglyHanded, Demand3, Checked}
+use Rattle.connection.specs.Claim.{callOf, Event, run, events, saidBy, leftBy, runT, eventsT, acceptedBy, requests, Numbered, first, nth, numbered, lookedUp, handedBy, handedOver, awaited, answeredBy, summaryBy, summariesFrom, summaries, wronglyHanded, Demand3, Checked, Claim}
 use Rattle.connection.proofs.Bools.{by-test, and-both}
 use Rattle.connection.proofs.Calls.{broken, standing}
 use Rattle.connection.proofs.Invariant.{Keeps, step-keeps, start-keeps, keeps-rules}
@@ -38,24 +40,48 @@ use Rattle.connection.proofs.Rows.{hands-running}
 use Rattle.connection.proofs.Turns.{handed-facts}
 use Rattle.connection.proofs.Waiting.{front-length, front-lined}
 
+-- ---- a request in flight is the first that waits, and the one handed over
+data Awaits (t : Table) (was : Option Request) : Type 0 where
+  idles : t .inFlight ≡ false → Awaits t was
+  flies : (r : Request) (ws : List Request) → t .waiting ≡ r ∷ ws → was ≡ some r → Awaits t was
+
+awaits-first : (t : Table) (was : Option Request) → Awaits t was → t .inFlight ≡ true → was ≡ first (t .waiting)
+awaits-first t was (idles e) f = absurd (true≢false (sym f ∙ e))
+awaits-first t was (flies r ws e w) f = w ∙ ap first (sym e)
+
+-- one more waits behind it
+awaits-more : (t : Table) (was : Option Request) → Awaits t was → (s : State) (o : Open) (r : Request) → Awaits (enqueued t s o r) was
+awaits-more t was (idles e) s o r = idles e
+awaits-more t was (flies q ws e w) s o r = flies q (ws ++ (r ∷ [])) (ap (λ (l : List Request). l ++ (r ∷ [])) e) w
+
 -- ---- what a step of the table does to the queue: it sends no summary, or one for the first that waits
-data Moved (t : Table) (x : Call) (u : Table) (s : Answer Said) : Type 0 where
-  quiet : summaryBy (t .waiting) s ≡ [] → u .sent ≡ t .sent → u .accepted ≡ t .accepted + length (acceptedBy x s)
-      → (inState (u .state) Defunct ≡ false → t .waiting ++ acceptedBy x s ≡ u .waiting) → Moved t x u s
-  spoke : (r : Request) (ws : List Request) → t .waiting ≡ r ∷ ws → summaryBy (t .waiting) s ≡ record { number = t .sent + 1; request = r } ∷ [] → u .sent ≡ t .sent + 1
-      → u .accepted ≡ t .accepted → acceptedBy x s ≡ [] → (inState (u .state) Defunct ≡ false → u .waiting ≡ ws) → Moved t x u s
+-- what it hands over is the first
+data Hands (t : Table) (s : Answer Said) : Type 0 where
+  none-handed : handedBy s ≡ [] → Hands t s
+  first-handed : (r : Request) (ws : List Request) → t .waiting ≡ r ∷ ws → handedBy s ≡ record { number = t .sent + 1; request = some r } ∷ [] → Hands t s
 
-abbrev Moves : Table → Call → Answer Done → Type 0
-Moves t x a = Moved t x (leftBy t a) (saidBy a)
+data Moved (t : Table) (was : Option Request) (x : Call) (u : Table) (s : Answer Said) : Type 0 where
+  quiet : summaryBy (answeredBy was t x) s ≡ [] → Hands t s → Awaits u (awaited was s) → u .sent ≡ t .sent → u .accepted ≡ t .accepted + length (acceptedBy x s)
+      → (inState (u .state) Defunct ≡ false → t .waiting ++ acceptedBy x s ≡ u .waiting) → Moved t was x u s
+  spoke : (r : Request) (ws : List Request) → t .waiting ≡ r ∷ ws → summaryBy (answeredBy was t x) s ≡ record { number = t .sent + 1; request = some r } ∷ [] → handedBy s ≡ [] → Awaits u (awaited was s)
+      → u .sent ≡ t .sent + 1 → u .accepted ≡ t .accepted → acceptedBy x s ≡ [] → (inState (u .state) Defunct ≡ false → u .waiting ≡ ws) → Moved t was x u s
 
-abbrev Does : Table → Call → Done → Type 0
-Does t x d = Moves t x (result d)
+awaits-on : (t : Table) (was : Option Request) (x : Call) (u : Table) (s : Answer Said) → Moved t was x u s → Awaits u (awaited was s)
+awaits-on t was x u s (quiet z h w p q f) = w
+awaits-on t was x u s (spoke r ws e z h w p q b f) = w
 
--- nothing is accepted and nothing waits otherwise
-module _ (t : Table) where
-  still : (x : Call) (u : Table) (s : Answer Said) → summaryBy (t .waiting) s ≡ [] → acceptedBy x s ≡ [] → u .sent ≡ t .sent → u .accepted ≡ t .accepted → (inState (u .state) Defunct ≡ false → u .waiting ≡ t .waiting) → Moved t x u s
-  still x u s z a p q f =
-      quiet z p (q ∙ sym (ap (λ (l : List Request). t .accepted + length l) a ∙ add-zero (t .accepted))) (λ d. ap (λ (l : List Request). t .waiting ++ l) a ∙ append-nil (t .waiting) ∙ sym (f d))
+module _ (t : Table) (was : Option Request) (w : Awaits t was) where
+  abbrev Moves : Call → Answer Done → Type 0
+  Moves x a = Moved t was x (leftBy t a) (saidBy a)
+
+  abbrev Does : Call → Done → Type 0
+  Does x d = Moves x (result d)
+
+  -- nothing is accepted and nothing waits otherwise
+  still : (x : Call) (u : Table) (s : Answer Said) → summaryBy (answeredBy was t x) s ≡ [] → Hands t s → Awaits u (awaited was s) → acceptedBy x s ≡ [] → u .sent ≡ t .sent → u .accepted ≡ t .accepted
+      → (inState (u .state) Defunct ≡ false → u .waiting ≡ t .waiting) → Moved t was x u s
+  still x u s z h v a p q f =
+      quiet z h v p (q ∙ sym (ap (λ (l : List Request). t .accepted + length l) a ∙ add-zero (t .accepted))) (λ d. ap (λ (l : List Request). t .waiting ++ l) a ∙ append-nil (t .waiting) ∙ sym (f d))
 
   none-accepted : (x : Call) (number place : ℕ) → acceptedBy x (refused number place) ≡ []
   none-accepted (T.arrive r) number place = refl
@@ -63,73 +89,79 @@ module _ (t : Table) where
   none-accepted (T.report o) number place = refl
   none-accepted T.close number place = refl
 
-  refuses : (x : Call) (number place : ℕ) → Moves t x (refused number place)
-  refuses x number place = still x t (refused number place) refl (none-accepted x number place) refl refl (λ _. refl)
+  refuses : (x : Call) (number place : ℕ) → Moves x (refused number place)
+  refuses x number place = still x t (refused number place) refl (none-handed refl) w (none-accepted x number place) refl refl (λ _. refl)
 
   -- ---- arrive
-  moved-accept : (r : Request) → Does t (T.arrive r) (accept t r)
+  moved-accept : (r : Request) → Does (T.arrive r) (accept t r)
   moved-accept r =
-      by-test (Does t (T.arrive r)) (is RESET r)
-      (λ _. by-test (Does t (T.arrive r)) (inState (t .state) Connected) (λ _. quiet refl refl refl (λ d. absurd (true≢false d))) (λ _. quiet refl refl refl (λ _. refl)))
-      (λ _. quiet refl refl refl (λ _. refl))
+      by-test (Does (T.arrive r)) (is RESET r)
+      (λ _. by-test (Does (T.arrive r)) (inState (t .state) Connected) (λ _. quiet refl (none-handed refl) (idles refl) refl refl (λ d. absurd (true≢false d)))
+      (λ _. quiet refl (none-handed refl) (awaits-more t was w Interrupted (T.noneOpen (t .streams)) r) refl refl (λ _. refl)))
+      (λ _. quiet refl (none-handed refl) (awaits-more t was w (t .state) (t .streams) r) refl refl (λ _. refl))
 
-  moved-arrive : (r : Request) → Moves t (T.arrive r) (T.arriveT t r)
+  moved-arrive : (r : Request) → Moves (T.arrive r) (T.arriveT t r)
   moved-arrive r =
-      by-test (Moves t (T.arrive r)) (inState (t .state) Defunct) (λ _. refuses (T.arrive r) 18 0)
-      (λ _. by-test (Moves t (T.arrive r)) (inRange r)
-      (λ _. by-test (Moves t (T.arrive r)) (leb 4294967295 (t .accepted)) (λ _. refuses (T.arrive r) 20 0)
-      (λ _. by-test (Moves t (T.arrive r)) (leb 32 (length (t .waiting))) (λ _. refuses (T.arrive r) 17 0) (λ _. moved-accept r)))
+      by-test (Moves (T.arrive r)) (inState (t .state) Defunct) (λ _. refuses (T.arrive r) 18 0)
+      (λ _. by-test (Moves (T.arrive r)) (inRange r)
+      (λ _. by-test (Moves (T.arrive r)) (leb 4294967295 (t .accepted)) (λ _. refuses (T.arrive r) 20 0)
+      (λ _. by-test (Moves (T.arrive r)) (leb 32 (length (t .waiting))) (λ _. refuses (T.arrive r) 17 0) (λ _. moved-accept r)))
       (λ _. refuses (T.arrive r) 16 0))
 
   -- ---- take and report
   module _ (r : Request) (ws : List Request) (e : t .waiting ≡ r ∷ ws) where
     -- a summary for the first
-    speaks : (x : Call) (s : State) (o : Open) (b : Bool) (summary : Summary) → inState s Defunct ≡ b → ((a : Answer Said) → acceptedBy x a ≡ []) → Does t x (answer t s o (cond b [] ws) summary)
-    speaks x s o b summary d none =
-        spoke r ws e (ap (pairedWith (t .sent + 1)) e) refl refl (none (result (T.answered summary (t .sent + 1)))) (λ f. ap (λ (b : Bool). cond b [] ws) (sym d ∙ f))
+    speaks : (x : Call) (s : State) (o : Open) (b : Bool) (summary : Summary) → inState s Defunct ≡ b → answeredBy was t x ≡ some r → ((a : Answer Said) → acceptedBy x a ≡ [])
+        → Does x (answer t s o (cond b [] ws) summary)
+    speaks x s o b summary d h quiet-call =
+        spoke r ws e (ap (λ (q : Option Request). record { number = t .sent + 1; request = q } ∷ []) h) refl (idles refl) refl refl (quiet-call (result (T.answered summary (t .sent + 1))))
+        (λ f. ap (λ (b : Bool). cond b [] ws) (sym d ∙ f))
 
-    taking : (a : Answer Said) → acceptedBy T.take a ≡ []
-    taking a = refl
+    taking : (s : State) (o : Open) (summary : Summary) → inState s Defunct ≡ false → Does T.take (answer t s o ws summary)
+    taking s o summary d = speaks T.take s o false summary d (ap first e) (λ _. refl)
 
-    moved-taken : (u : Turn) → inState (t .state) Defunct ≡ false → Does t T.take (taken u t r ws)
-    moved-taken U.Closes alive = still T.take (defunct t) (result T.closed) refl refl refl refl (λ d. absurd (true≢false d))
+    moved-taken : (u : Turn) → inState (t .state) Defunct ≡ false → Does T.take (taken u t r ws)
+    moved-taken U.Closes alive = still T.take (defunct t) (result T.closed) refl (none-handed refl) (idles refl) refl refl refl (λ d. absurd (true≢false d))
     moved-taken U.Resets alive = by-reset (any (is RESET) ws)
       where
-        by-reset : (b : Bool) → Does t T.take (answer t (cond b Interrupted Ready) (T.noneOpen (t .streams)) ws S.Success)
-        by-reset true = speaks T.take Interrupted (T.noneOpen (t .streams)) false S.Success refl taking
-        by-reset false = speaks T.take Ready (T.noneOpen (t .streams)) false S.Success refl taking
-    moved-taken U.Ignored alive = speaks T.take (t .state) (t .streams) false S.Ignored alive taking
-    moved-taken U.Handed alive = still T.take (taken U.Handed t r ws .table) (result (T.handed r (t .sent + 1))) refl refl refl refl (λ _. refl)
-    moved-taken U.Full alive = speaks T.take Failed (T.noneOpen (t .streams)) false (S.Failure StreamsFull) refl taking
-    moved-taken U.Unknown alive = speaks T.take Failed (T.noneOpen (t .streams)) false (S.Failure StreamUnknown) refl taking
+        by-reset : (b : Bool) → Does T.take (answer t (cond b Interrupted Ready) (T.noneOpen (t .streams)) ws S.Success)
+        by-reset true = taking Interrupted (T.noneOpen (t .streams)) S.Success refl
+        by-reset false = taking Ready (T.noneOpen (t .streams)) S.Success refl
+    moved-taken U.Ignored alive = taking (t .state) (t .streams) S.Ignored alive
+    moved-taken U.Handed alive =
+        still T.take (taken U.Handed t r ws .table) (result (taken U.Handed t r ws .said)) refl (first-handed r ws e refl) (flies r ws e refl) refl refl refl (λ _. refl)
+    moved-taken U.Full alive = taking Failed (T.noneOpen (t .streams)) (S.Failure StreamsFull) refl
+    moved-taken U.Unknown alive = taking Failed (T.noneOpen (t .streams)) (S.Failure StreamUnknown) refl
 
-    moved-reported : (o : Outcome) → inState (t .state) Defunct ≡ false → Does t (T.report o) (reported o t r ws)
-    moved-reported o alive =
+    moved-reported : (o : Outcome) → t .inFlight ≡ true → inState (t .state) Defunct ≡ false → Does (T.report o) (reported o t r ws)
+    moved-reported o inflight alive =
         let after : Open = streamsAfter o (t .state) (t .streams) r in
         let new : State = newState (t .state) (kindOf r) (response o r (length (after .numbers))) in
         let summary : Summary = T.summaryOf o (t .state) (t .streams .next) r in
-        by-test (Does t (T.report o)) (inState (t .state) Interrupted) (λ _. speaks (T.report o) (t .state) (t .streams) false summary alive (λ _. refl))
-        (λ _. speaks (T.report o) new after (inState new Defunct) summary refl (λ _. refl))
+        let for : was ≡ some r = awaits-first t was w inflight ∙ ap first e in
+        by-test (Does (T.report o)) (inState (t .state) Interrupted) (λ _. speaks (T.report o) (t .state) (t .streams) false summary alive for (λ _. refl))
+        (λ _. speaks (T.report o) new after (inState new Defunct) summary refl for (λ _. refl))
 
-  moved-first : inState (t .state) Defunct ≡ false → (l : List Request) → t .waiting ≡ l → Does t T.take (takeFirst t l)
-  moved-first alive [] e = still T.take t (result T.idle) refl refl refl refl (λ _. refl)
+  moved-first : inState (t .state) Defunct ≡ false → (l : List Request) → t .waiting ≡ l → Does T.take (takeFirst t l)
+  moved-first alive [] e = still T.take t (result T.idle) refl (none-handed refl) w refl refl refl (λ _. refl)
   moved-first alive (r ∷ ws) e = moved-taken r ws e (turnOf (t .state) (t .streams) r) alive
 
-  moved-outcome : inState (t .state) Defunct ≡ false → (o : Outcome) (l : List Request) → t .waiting ≡ l → Moves t (T.report o) (reportFirst o t l)
-  moved-outcome alive o [] e = refuses (T.report o) 19 0
-  moved-outcome alive o (r ∷ ws) e = by-test (Moves t (T.report o)) (fitting o r) (λ _. moved-reported r ws e o alive) (λ _. refuses (T.report o) 19 0)
+  moved-outcome : t .inFlight ≡ true → inState (t .state) Defunct ≡ false → (o : Outcome) (l : List Request) → t .waiting ≡ l → Moves (T.report o) (reportFirst o t l)
+  moved-outcome inflight alive o [] e = refuses (T.report o) 19 0
+  moved-outcome inflight alive o (r ∷ ws) e = by-test (Moves (T.report o)) (fitting o r) (λ _. moved-reported r ws e o inflight alive) (λ _. refuses (T.report o) 19 0)
 
-  moved : (x : Call) → Moves t x (step t x)
+  moved : (x : Call) → Moves x (step t x)
   moved (T.arrive r) = moved-arrive r
   moved T.take =
-      by-test (Moves t T.take) (inState (t .state) Defunct) (λ _. refuses T.take 18 0)
-      (λ alive. by-test (Does t T.take) (t .inFlight) (λ _. still T.take t (result T.idle) refl refl refl refl (λ _. refl)) (λ _. moved-first alive (t .waiting) refl))
+      by-test (Moves T.take) (inState (t .state) Defunct) (λ _. refuses T.take 18 0)
+      (λ alive. by-test (Does T.take) (t .inFlight) (λ _. still T.take t (result T.idle) refl (none-handed refl) w refl refl refl (λ _. refl))
+      (λ _. moved-first alive (t .waiting) refl))
   moved (T.report o) =
-      by-test (Moves t (T.report o)) (inState (t .state) Defunct) (λ _. refuses (T.report o) 18 0)
-      (λ alive. by-test (Moves t (T.report o)) (t .inFlight) (λ _. moved-outcome alive o (t .waiting) refl) (λ _. refuses (T.report o) 19 0))
+      by-test (Moves (T.report o)) (inState (t .state) Defunct) (λ _. refuses (T.report o) 18 0)
+      (λ alive. by-test (Moves (T.report o)) (t .inFlight) (λ inflight. moved-outcome inflight alive o (t .waiting) refl) (λ _. refuses (T.report o) 19 0))
   moved T.close =
-      by-test (Moves t T.close) (inState (t .state) Defunct) (λ _. refuses T.close 18 0)
-      (λ _. still T.close (defunct t) (result T.closed) refl refl refl refl (λ d. absurd (true≢false d)))
+      by-test (Moves T.close) (inState (t .state) Defunct) (λ _. refuses T.close 18 0)
+      (λ _. still T.close (defunct t) (result T.closed) refl (none-handed refl) (idles refl) refl refl refl (λ d. absurd (true≢false d)))
 
 -- ---- no request is handed over in FAILED or INTERRUPTED
 abbrev Rightly : Table → Call → Answer Done → Type 0
@@ -177,39 +209,63 @@ dead t T.take e = rw e
 dead t (T.report o) e = rw e
 dead t T.close e = rw e
 
-no-summary : (t : Table) → inState (t .state) Defunct ≡ true → (calls : List Call) → summaries (eventsT t calls) ≡ []
-no-summary t d [] = refl
-no-summary t d (x ∷ xs) = ap (λ (a : Answer Done). summaryBy (t .waiting) (saidBy a) ++ summaries (eventsT (leftBy t a) xs)) (dead t x d) ∙ no-summary t d xs
+no-summary : (t : Table) → inState (t .state) Defunct ≡ true → (was : Option Request) (calls : List Call) → summariesFrom was (eventsT t calls) ≡ []
+no-summary t d was [] = refl
+no-summary t d was (x ∷ xs) =
+    ap (λ (a : Answer Done). summaryBy (answeredBy was t x) (saidBy a) ++ summariesFrom (awaited was (saidBy a)) (eventsT (leftBy t a) xs)) (dead t x d) ∙ no-summary t d was xs
+
+none-more : (t : Table) → inState (t .state) Defunct ≡ true → (calls : List Call) → handedOver (eventsT t calls) ≡ []
+none-more t d [] = refl
+none-more t d (x ∷ xs) = ap (λ (a : Answer Done). handedBy (saidBy a) ++ handedOver (eventsT (leftBy t a) xs)) (dead t x d) ∙ none-more t d xs
+
+-- ---- what is handed over has the numbers of these requests
+abbrev Right : List Request → List Numbered → Type 0
+Right rs hs = hs ≡ lookedUp rs hs
+
+right-none : (rs : List Request) (hs : List Numbered) → hs ≡ [] → Right rs hs
+right-none rs hs e = subst (Right rs) (sym e) refl
+
+nth-next : (before l : List Request) (r : Request) (n : ℕ) → length before ≡ n → nth (n + 1) (before ++ (r ∷ l)) ≡ some r
+nth-next before l r n e = ap (λ (k : ℕ). nth k (before ++ (r ∷ l))) (add-one n) ∙ ap first (drop-at before (r ∷ l) n e)
+
+-- as many as were sent came before those that wait
+right-more : (t : Table) (s : Answer Said) (before l : List Request) (hs : List Numbered) → Hands t s → length before ≡ t .sent → Right (before ++ (t .waiting ++ l)) hs
+    → Right (before ++ (t .waiting ++ l)) (handedBy s ++ hs)
+right-more t s before l hs (none-handed z) n h = subst (Right (before ++ (t .waiting ++ l))) (ap (λ (a : List Numbered). a ++ hs) (sym z)) h
+right-more t s before l hs (first-handed r ws e z) n h =
+    let right : nth (t .sent + 1) (before ++ (t .waiting ++ l)) ≡ some r = ap (λ (v : List Request). nth (t .sent + 1) (before ++ (v ++ l))) e ∙ nth-next before (ws ++ l) r (t .sent) n in
+    subst (Right (before ++ (t .waiting ++ l))) (ap (λ (a : List Numbered). a ++ hs) (sym z)) (λ i. record { number = t .sent + 1; request = sym right i } ∷ h i)
 
 -- ---- the whole run of the table
-record Told (t : Table) (calls : List Call) : Type 0 where
-  sent : runT t calls .sent ≡ t .sent + length (summaries (eventsT t calls))
+record Told (t : Table) (was : Option Request) (calls : List Call) : Type 0 where
+  sent : runT t calls .sent ≡ t .sent + length (summariesFrom was (eventsT t calls))
   accepted : runT t calls .accepted ≡ t .accepted + length (requests (eventsT t calls))
-  kth : summaries (eventsT t calls) ≡ numbered (t .sent + 1) (take (length (summaries (eventsT t calls))) (t .waiting ++ requests (eventsT t calls)))
+  kth : summariesFrom was (eventsT t calls) ≡ numbered (t .sent + 1) (take (length (summariesFrom was (eventsT t calls))) (t .waiting ++ requests (eventsT t calls)))
+  handed : (before : List Request) → length before ≡ t .sent → Right (before ++ (t .waiting ++ requests (eventsT t calls))) (handedOver (eventsT t calls))
   never : any wronglyHanded (eventsT t calls) ≡ false
 
 -- the k-th rule, over a call that sends nothing, and over one that sends a summary
 kth-quiet : (a b : List Numbered) (k j : ℕ) (l m : List Request) → a ≡ b → j ≡ k → m ≡ l → b ≡ numbered j (take (length b) m) → a ≡ numbered k (take (length a) l)
 kth-quiet a b k j l m e p q h = e ∙ h ∙ (λ i. numbered (p i) (take (length (sym e i)) (q i)))
 
-kth-spoke : (a b : List Numbered) (k j : ℕ) (r : Request) (l m all : List Request) → a ≡ record { number = k; request = r } ∷ b → j ≡ k + 1 → all ≡ r ∷ l → m ≡ l → b ≡ numbered j (take (length b) m) → a ≡ numbered k (take (length a) all)
+kth-spoke : (a b : List Numbered) (k j : ℕ) (r : Request) (l m all : List Request) → a ≡ record { number = k; request = some r } ∷ b → j ≡ k + 1 → all ≡ r ∷ l → m ≡ l → b ≡ numbered j (take (length b) m) → a ≡ numbered k (take (length a) all)
 kth-spoke a b k j r l m all e p f q h =
-    e ∙ (λ i. record { number = k; request = r } ∷ (h ∙ (λ z. numbered (p z) (take (length b) (q z)))) i) ∙ (λ i. numbered k (take (length (sym e i)) (sym f i)))
+    e ∙ (λ i. record { number = k; request = some r } ∷ (h ∙ (λ z. numbered (p z) (take (length b) (q z)))) i) ∙ (λ i. numbered k (take (length (sym e i)) (sym f i)))
 
 -- the same where the connection has ended
 kth-ended : (a : List Numbered) (k : ℕ) (l : List Request) → a ≡ [] → a ≡ numbered k (take (length a) l)
 kth-ended a k l e = e ∙ (λ i. numbered k (take (length (sym e i)) l))
 
-kth-last : (a b : List Numbered) (k : ℕ) (r : Request) (l all : List Request) → a ≡ record { number = k; request = r } ∷ b → b ≡ [] → all ≡ r ∷ l → a ≡ numbered k (take (length a) all)
+kth-last : (a b : List Numbered) (k : ℕ) (r : Request) (l all : List Request) → a ≡ record { number = k; request = some r } ∷ b → b ≡ [] → all ≡ r ∷ l → a ≡ numbered k (take (length a) all)
 kth-last a b k r l all e d f =
-    let whole : a ≡ record { number = k; request = r } ∷ [] = e ∙ ap (λ (z : List Numbered). record { number = k; request = r } ∷ z) d in
+    let whole : a ≡ record { number = k; request = some r } ∷ [] = e ∙ ap (λ (z : List Numbered). record { number = k; request = some r } ∷ z) d in
     whole ∙ (λ i. numbered k (take (length (sym whole i)) (sym f i)))
 
 either : (b : Bool) → (b ≡ true) ⊎ (b ≡ false)
 either true = inl refl
 either false = inr refl
 
-module _ (t : Table) (x : Call) (xs : List Call) (rest : Told (leftBy t (step t x)) xs) where
+module _ (t : Table) (was : Option Request) (x : Call) (xs : List Call) (rest : Told (leftBy t (step t x)) (awaited was (saidBy (step t x))) xs) where
   abbrev u : Table
   u = leftBy t (step t x)
 
@@ -220,43 +276,69 @@ module _ (t : Table) (x : Call) (xs : List Call) (rest : Told (leftBy t (step t 
   rs = requests (eventsT u xs)
 
   abbrev ss : List Numbered
-  ss = summaries (eventsT u xs)
+  ss = summariesFrom (awaited was said) (eventsT u xs)
+
+  abbrev hs : List Numbered
+  hs = handedOver (eventsT u xs)
+
+  abbrev all-summaries : List Numbered
+  all-summaries = summariesFrom was (eventsT t (x ∷ xs))
+
+  abbrev all-requests : List Request
+  all-requests = t .waiting ++ requests (eventsT t (x ∷ xs))
 
   more : length (acceptedBy x said ++ rs) ≡ length (acceptedBy x said) + length rs
   more = length-append (acceptedBy x said) rs
 
-  none : any wronglyHanded (eventsT t (x ∷ xs)) ≡ false
-  none = ap (λ (b : Bool). b || any wronglyHanded (eventsT u xs)) (rightly t x) ∙ rest .never
+  none-wrongly : any wronglyHanded (eventsT t (x ∷ xs)) ≡ false
+  none-wrongly = ap (λ (b : Bool). b || any wronglyHanded (eventsT u xs)) (rightly t x) ∙ rest .never
 
-  told-more : Moved t x u said → Told t (x ∷ xs)
-  told-more (quiet z s a f) =
-      let all : summaries (eventsT t (x ∷ xs)) ≡ ss = ap (λ (l : List Numbered). l ++ ss) z in
+  -- the same requests as the rest has: none of them was answered, or the first was
+  right-quiet : (before : List Request) → length before ≡ u .sent → all-requests ≡ u .waiting ++ rs → Right (before ++ all-requests) hs
+  right-quiet before n e = subst (λ (l : List Request). Right (before ++ l) hs) (sym e) (rest .handed before n)
+
+  right-spoke : (before : List Request) (r : Request) → length before + 1 ≡ u .sent → all-requests ≡ r ∷ (u .waiting ++ rs) → Right (before ++ all-requests) hs
+  right-spoke before r n e =
+      subst (λ (l : List Request). Right l hs) (append-assoc before (r ∷ []) (u .waiting ++ rs) ∙ ap (λ (l : List Request). before ++ l) (sym e))
+      (rest .handed (before ++ (r ∷ [])) (length-append before (r ∷ []) ∙ n))
+
+  told-more : Moved t was x u said → Told t was (x ∷ xs)
+  told-more (quiet z h w s a f) =
+      let all : all-summaries ≡ ss = ap (λ (l : List Numbered). l ++ ss) z in
+      let same : inState (u .state) Defunct ≡ false → u .waiting ++ rs ≡ all-requests =
+      λ d. ap (λ (l : List Request). l ++ rs) (sym (f d)) ∙ append-assoc (t .waiting) (acceptedBy x said) rs in
       record {
         sent = rest .sent ∙ ap (λ (k : ℕ). k + length ss) s ∙ ap (λ (l : List Numbered). t .sent + length l) (sym all);
         accepted = rest .accepted ∙ omega (arith, a, more);
-        kth = ⊎-elim (λ d. kth-ended (summaries (eventsT t (x ∷ xs))) (t .sent + 1) (t .waiting ++ requests (eventsT t (x ∷ xs))) (all ∙ no-summary u d xs))
-            (λ d. kth-quiet (summaries (eventsT t (x ∷ xs))) ss (t .sent + 1) (u .sent + 1) (t .waiting ++ (acceptedBy x said ++ rs)) (u .waiting ++ rs) all (ap (λ (k : ℕ). k + 1) s)
-            (ap (λ (l : List Request). l ++ rs) (sym (f d)) ∙ append-assoc (t .waiting) (acceptedBy x said) rs) (rest .kth))
+        kth = ⊎-elim (λ d. kth-ended all-summaries (t .sent + 1) all-requests (all ∙ no-summary u d (awaited was said) xs))
+            (λ d. kth-quiet all-summaries ss (t .sent + 1) (u .sent + 1) all-requests (u .waiting ++ rs) all (ap (λ (k : ℕ). k + 1) s) (same d) (rest .kth))
             (either (inState (u .state) Defunct));
-        never = none;
+        handed = λ before n. right-more t said before (requests (eventsT t (x ∷ xs))) hs h n
+            (⊎-elim (λ d. right-none (before ++ all-requests) hs (none-more u d xs)) (λ d. right-quiet before (n ∙ sym s) (sym (same d))) (either (inState (u .state) Defunct)));
+        never = none-wrongly;
       }
-  told-more (spoke r ws e z s a b f) =
-      let all : summaries (eventsT t (x ∷ xs)) ≡ record { number = t .sent + 1; request = r } ∷ ss = ap (λ (l : List Numbered). l ++ ss) z in
+  told-more (spoke r ws e z h w s a b f) =
+      let all : all-summaries ≡ record { number = t .sent + 1; request = some r } ∷ ss = ap (λ (l : List Numbered). l ++ ss) z in
       let same : requests (eventsT t (x ∷ xs)) ≡ rs = ap (λ (l : List Request). l ++ rs) b in
-      let whole : t .waiting ++ requests (eventsT t (x ∷ xs)) ≡ r ∷ (ws ++ rs) = (λ i. e i ++ same i) in
+      let whole : all-requests ≡ r ∷ (ws ++ rs) = (λ i. e i ++ same i) in
       record {
         sent = rest .sent ∙ omega (arith, s, ap length all);
         accepted = rest .accepted ∙ omega (arith, a, ap length same);
-        kth = ⊎-elim (λ d. kth-last (summaries (eventsT t (x ∷ xs))) ss (t .sent + 1) r (ws ++ rs) (t .waiting ++ requests (eventsT t (x ∷ xs))) all (no-summary u d xs) whole)
-            (λ d. kth-spoke (summaries (eventsT t (x ∷ xs))) ss (t .sent + 1) (u .sent + 1) r (ws ++ rs) (u .waiting ++ rs) (t .waiting ++ requests (eventsT t (x ∷ xs))) all (ap (λ (k : ℕ). k + 1) s) whole
+        kth = ⊎-elim (λ d. kth-last all-summaries ss (t .sent + 1) r (ws ++ rs) all-requests all (no-summary u d (awaited was said) xs) whole)
+            (λ d. kth-spoke all-summaries ss (t .sent + 1) (u .sent + 1) r (ws ++ rs) (u .waiting ++ rs) all-requests all (ap (λ (k : ℕ). k + 1) s) whole
             (ap (λ (l : List Request). l ++ rs) (f d)) (rest .kth))
             (either (inState (u .state) Defunct));
-        never = none;
+        handed = λ before n. subst (Right (before ++ all-requests)) (ap (λ (l : List Numbered). l ++ hs) (sym h))
+            (⊎-elim (λ d. right-none (before ++ all-requests) hs (none-more u d xs))
+            (λ d. right-spoke before r (ap (λ (k : ℕ). k + 1) n ∙ sym s) (whole ∙ ap (λ (l : List Request). r ∷ (l ++ rs)) (sym (f d)))) (either (inState (u .state) Defunct)));
+        never = none-wrongly;
       }
 
-told : (t : Table) (calls : List Call) → Told t calls
-told t [] = record { sent = sym (add-zero (t .sent)); accepted = sym (add-zero (t .accepted)); kth = refl; never = refl }
-told t (x ∷ xs) = told-more t x xs (told (leftBy t (step t x)) xs) (moved t x)
+told : (t : Table) (was : Option Request) → Awaits t was → (calls : List Call) → Told t was calls
+told t was w [] = record { sent = sym (add-zero (t .sent)); accepted = sym (add-zero (t .accepted)); kth = refl; handed = λ before n. refl; never = refl }
+told t was w (x ∷ xs) =
+    let m : Moved t was x (leftBy t (step t x)) (saidBy (step t x)) = moved t was w x in
+    told-more t was x xs (told (leftBy t (step t x)) (awaited was (saidBy (step t x))) (awaits-on t was x (leftBy t (step t x)) (saidBy (step t x)) m) xs) m
 
 -- ---- the record follows the table
 record Fit (c : Connection) : Type 0 where
@@ -332,7 +414,7 @@ fresh-fit = record { fits = record { places = refl; numbers = refl; few = omega 
 pub demand3 : (calls : List Call) → Demand3 calls
 demand3 calls =
     let f : Follows fresh calls = follows fresh fresh-fit calls in
-    let g : Told start calls = told start calls in
+    let g : Told start none calls = told start none (idles refl) calls in
     let c = run fresh calls in
     let k : Keeps (kept c) = f .fit .keeps in
     let back : eventsT start calls ≡ events fresh calls = sym (f .seen) in
@@ -346,6 +428,7 @@ demand3 calls =
       sum = λ d. k .sum d ∙ ap (λ (m : ℕ). c .control .sent + m) size;
       most = ⊎-elim (λ d. k .gone d .1) (λ d. let e = k .sum d in omega arith) (either (inState (c .control .state) Defunct));
       kth = subst (λ (l : List Event). summaries l ≡ numbered 1 (take (length (summaries l)) (requests l))) back (g .kth);
+      handed = subst (λ (l : List Event). Right (requests l) (handedOver l)) back (g .handed [] refl);
       never = subst (λ (l : List Event). any wronglyHanded l ≡ false) back (g .never);
     }
 
@@ -396,3 +479,6 @@ checked c x = record {
     by-rules true k e =
         absurd (never24 (kept c) x (ap number (sym (carried-answer c (step (kept c) x)) ∙ ap (λ (w : After). w .answer) (standing c (step (kept c) x) k ∙ sym (call-called c x)) ∙ e)))
     by-rules false k e = k
+
+pub claim : Claim
+claim = record { demand3 = demand3; checked = checked }

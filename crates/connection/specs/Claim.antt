@@ -1,10 +1,11 @@
 -- Demand 3 of document 01: what holds of every list of arrive, take, report and close calls on one record, from the fresh one; and beside it
 -- when a call gives 24. Proved in proofs/Demand3.antt. Assumes nothing.
 use mathlib.Core.Path.{_≡_}
-use Prim.Native.Nat.{ℕ, _+_, _≤_}
+use Prim.Native.Nat.{ℕ, zero, suc, _+_, _≤_}
 use mathlib.Core.Bool.{Bool, true, false, _&&_, _||_}
 use mathlib.Core.List.{List, [], _∷_, _++_}
-use lib.ListN.{length, take}
+use mathlib.Core.Option.{Option, none, some}
+use lib.ListN.{length, take, drop}
 use Rattle.refusal.specs.Answer.{Answer, result, refused}
 use Rattle.connection.specs.declared.record.State.the-variants.{Interrupted, Failed, Defunct}
 use Rattle.connection.specs.declared.record.Request.{Request}
@@ -68,32 +69,80 @@ abbrev pub requests : List Event → List Request
 requests [] = []
 requests (e ∷ es) = acceptedBy (e .call) (e .answer) ++ requests es
 
--- a summary's number, and the request that it answers: the one its take looked at or its report was for, the first that waits before the call
+-- ---- requests with their numbers
+-- a number, and the request that goes with it; none where there is no such request
 pub record Numbered : Type 0 where
   pub number : ℕ
-  pub request : Request
+  pub request : Option Request
 
-abbrev pub pairedWith : ℕ → List Request → List Numbered
-pairedWith number [] = []
-pairedWith number (r ∷ ws) = record { number = number; request = r } ∷ []
+-- the first of some requests, and the n-th, from 1
+abbrev pub first : List Request → Option Request
+first [] = none
+first (r ∷ rs) = some r
 
-abbrev pub summaryBy : List Request → Answer Said → List Numbered
-summaryBy ws (refused number place) = []
-summaryBy ws (result T.queued) = []
-summaryBy ws (result T.closed) = []
-summaryBy ws (result T.idle) = []
-summaryBy ws (result (T.handed r number)) = []
-summaryBy ws (result (T.answered summary number)) = pairedWith number ws
-
-abbrev pub summaries : List Event → List Numbered
-summaries [] = []
-summaries (e ∷ es) = summaryBy (e .before .waiting) (e .answer) ++ summaries es
+abbrev pub nth : ℕ → List Request → Option Request
+nth zero rs = none
+nth (suc n) rs = first (drop n rs)
 
 -- requests with their numbers, in order
 abbrev pub numbered : ℕ → List Request → List Numbered
 numbered n [] = []
-numbered n (r ∷ rs) = record { number = n; request = r } ∷ numbered (n + 1) rs
+numbered n (r ∷ rs) = record { number = n; request = some r } ∷ numbered (n + 1) rs
 
+-- each number, with the request that has this number among the requests rs
+abbrev pub lookedUp : List Request → List Numbered → List Numbered
+lookedUp rs [] = []
+lookedUp rs (x ∷ xs) = record { number = x .number; request = nth (x .number) rs } ∷ lookedUp rs xs
+
+-- what is handed over, with the numbers handed over with it
+abbrev pub handedBy : Answer Said → List Numbered
+handedBy (refused number place) = []
+handedBy (result T.queued) = []
+handedBy (result T.closed) = []
+handedBy (result T.idle) = []
+handedBy (result (T.handed r number)) = record { number = number; request = some r } ∷ []
+handedBy (result (T.answered summary number)) = []
+
+abbrev pub handedOver : List Event → List Numbered
+handedOver [] = []
+handedOver (e ∷ es) = handedBy (e .answer) ++ handedOver es
+
+-- ---- summaries
+-- the request that was handed over and has no summary yet, after an answer: `was` is the one before it
+abbrev pub awaited : Option Request → Answer Said → Option Request
+awaited was (refused number place) = was
+awaited was (result T.queued) = was
+awaited was (result T.closed) = was
+awaited was (result T.idle) = was
+awaited was (result (T.handed r number)) = some r
+awaited was (result (T.answered summary number)) = none
+
+-- the request that a call's summary answers: the one that a take looked at, the first that waits before it; or the one that a report was for,
+-- which was handed over
+abbrev pub answeredBy : Option Request → Table → Call → Option Request
+answeredBy was before (T.arrive r) = none
+answeredBy was before T.take = first (before .waiting)
+answeredBy was before (T.report o) = was
+answeredBy was before T.close = none
+
+-- a summary's number, with the request that it answers
+abbrev pub summaryBy : Option Request → Answer Said → List Numbered
+summaryBy r (refused number place) = []
+summaryBy r (result T.queued) = []
+summaryBy r (result T.closed) = []
+summaryBy r (result T.idle) = []
+summaryBy r (result (T.handed q number)) = []
+summaryBy r (result (T.answered summary number)) = record { number = number; request = r } ∷ []
+
+-- where a request was handed over before them, and from the first call on
+abbrev pub summariesFrom : Option Request → List Event → List Numbered
+summariesFrom was [] = []
+summariesFrom was (e ∷ es) = summaryBy (answeredBy was (e .before) (e .call)) (e .answer) ++ summariesFrom (awaited was (e .answer)) es
+
+abbrev pub summaries : List Event → List Numbered
+summaries es = summariesFrom none es
+
+-- ---- what is handed over where nothing may be
 -- a request handed over by a take in FAILED or INTERRUPTED
 abbrev pub handsOne : Answer Said → Bool
 handsOne (refused number place) = false
@@ -125,6 +174,8 @@ pub record Demand3 (calls : List Call) : Type 0 where
   pub most : run fresh calls .control .sent ≤ run fresh calls .control .accepted
   -- the k-th summary has number k and answers the k-th accepted request
   pub kth : summaries (events fresh calls) ≡ numbered 1 (take (length (summaries (events fresh calls))) (requests (events fresh calls)))
+  -- each request handed over with number n is the n-th accepted request
+  pub handed : handedOver (events fresh calls) ≡ lookedUp (requests (events fresh calls)) (handedOver (events fresh calls))
   -- no request whose turn comes in FAILED or INTERRUPTED is handed over
   pub never : any wronglyHanded (events fresh calls) ≡ false
 
@@ -132,3 +183,8 @@ pub record Demand3 (calls : List Call) : Type 0 where
 pub record Checked (c : Connection) (call : Call) : Type 0 where
   pub broken : keepsRules c ≡ false → callOf c call ≡ record { connection = c; answer = refused 24 0 }
   pub only : callOf c call .answer ≡ refused 24 0 → keepsRules c ≡ false
+
+-- of every list of calls, and of every record and call
+pub record Claim : Type 0 where
+  pub demand3 : (calls : List Call) → Demand3 calls
+  pub checked : (c : Connection) (call : Call) → Checked c call

@@ -2,11 +2,12 @@
 use borrow.Author.Needs.{needs}
 use mathlib.Core.Path.{_≡_, refl, sym, ap, _∙_}
 use mathlib.Core.Bool.{Bool, true, false, cond}
-use Prim.Native.Nat.{_+_, _-_}
+use Prim.Native.Nat.{ℕ, _-_}
 use lib.ListN.{drop}
 use Rattle.refusal.specs.Answer.{result}
 use Rattle.connection.specs.declared.record.State.{State}
 use Rattle.connection.specs.declared.record.State.the-variants.{Ready, Failed, Interrupted}
+use Rattle.connection.specs.declared.record.Request.{Request}
 use Rattle.connection.specs.declared.record.Queue.{Queue}
 use Rattle.connection.specs.declared.record.Control.{Control}
 use Rattle.connection.specs.declared.record.Connection.{Connection}
@@ -19,9 +20,9 @@ use Rattle.connection.specs.declared.turn.Turn.the-variants as U
 use Rattle.connection.specs.Requests.{is, any}
 use Rattle.bolt.specs.Requests.{RESET}
 use Rattle.connection.specs.Table.{Done, noneOpen, answer, handed, taken, takeFirst, turnOf}
-use Rattle.connection.specs.Record.{After, joined, front, openOf, kept, carried, toldTake}
+use Rattle.connection.specs.Record.{After, joined, front, openOf, kept, put, carried, toldTake}
 use Rattle.connection.specs.Private.Queue.{behind, firstIn}
-use Rattle.connection.specs.Private.Parts.{clearedIn}
+use Rattle.connection.specs.Private.Parts.{clearedIn, handedIn}
 use Rattle.connection.proofs.Keeping.{Fits, put-handed, answers, first-taken}
 use Rattle.connection.proofs.Lengths.{slots, streams}
 use Rattle.connection.proofs.Numbers.{laid-own}
@@ -63,6 +64,14 @@ resets d b e =
     ap (λ (b : Bool). gives d (answer (kept (joined (k d) (q d))) (cond b Interrupted Ready) (noneOpen (openOf (k d .streams))) (behind (q d) (k d .waiting - 1)) S.Success))
     (sym (ap (any (is RESET)) (sym (front-rest (q d) (k d .waiting) (fit s .places) (s .pre .some) (s .pre .short))) ∙ e))
 
+-- it is handed over, whatever its number
+hands : (d : tie.After-turn-of) {x : Control} {r : Request} {n : ℕ} → x ≡ handedIn (k d) → r ≡ firstIn (q d)
+    → toldTake (record { connection = joined x (q d); answer = A.Handed r n })
+    ≡ record { connection = put (joined (k d) (q d)) (taken U.Handed (kept (joined (k d) (q d))) (firstIn (q d)) (behind (q d) (k d .waiting - 1)) .table); answer = result (handed (firstIn (q d)) n) }
+hands d {n = n} e f =
+    (λ i. record { connection = joined (e i) (q d); answer = result (handed (f i) n) })
+    ∙ ap (λ (x : Connection). record { connection = x; answer = result (handed (firstIn (q d)) n) }) (put-handed (k d) (q d) (fit (d .before .before .before)))
+
 enum-told : tie.Need-enum-told
 enum-told c = search needs
 
@@ -91,8 +100,7 @@ returns-4 c =
 returns-5 : tie.Need-returns-5
 returns-5 c =
     let d = c .before .before .before .before .before in
-    ap toldTake (c .answer2 .ensures ∙ (λ i. record { connection = joined (c .before .handed .ensures i) (q d); answer = A.Handed (c .before .before .before .before .before .before .first .ensures i) (k d .sent + 1) }))
-    ∙ ap (λ (x : Connection). record { connection = x; answer = result (handed (firstIn (q d)) (k d .sent + 1)) }) (put-handed (k d) (q d) (fit (c .before .before .before .before .before .before .before .before))) ∙ turns d U.Handed (c .before .before .before .enum-told4 .given .1)
+    ap toldTake (c .answer2 .ensures) ∙ hands d (c .before .handed .ensures) (c .before .before .before .before .before .before .first .ensures) ∙ turns d U.Handed (c .before .before .before .enum-told4 .given .1)
 
 returns-6 : tie.Need-returns-6
 returns-6 c = let d = c .before .before .before in ap toldTake (c .fail .ensures) ∙ clears d Failed (S.Failure StreamsFull) ∙ turns d U.Full (c .before .enum-told5 .given .1)
