@@ -14,6 +14,7 @@ use Rattle.refusal.specs.Answer.{Answer, refused, Placed}
 use Rattle.refusal.proofs.Answer.{placed-cond}
 use Rattle.handshake.specs.Version.{proposed}
 use Rattle.handshake.specs.Negotiation.{preamble, agrees, orElse, chosen, negotiated}
+use Rattle.handshake.specs.Places.{Claim}
 
 -- a byte of each more
 pub agrees-next : (p s : List ℕ) (i : ℕ) → i < length p → i < length s
@@ -54,7 +55,7 @@ unfolding chosen
 chosen-placed zero s = λ e. refl
 chosen-placed (suc n) s = orElse-placed (proposed (take 4 s)) (chosen n (drop 4 s)) (chosen-placed n (drop 4 s))
 
-pub negotiated-placed : (s : List ℕ) → Placed (negotiated s)
+pub negotiated-placed : Claim
 unfolding negotiated
 negotiated-placed s =
     placed-cond (agrees preamble s) (cond (ltb (length s) 20) (refused 1 0) (chosen 4 (drop 4 s))) (refused 2 0)

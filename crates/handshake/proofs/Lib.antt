@@ -1,2 +1,3 @@
 pub mod Proposals
 pub mod Choosing
+pub mod Echo

@@ -1,3 +1,5 @@
 pub mod Version
 pub mod Negotiation
+pub mod Echo
+pub mod Places
 pub mod Cases
