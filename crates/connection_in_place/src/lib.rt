@@ -14,31 +14,31 @@ ghost use Rattle.connection.specs.Record.{arriveOf, takeOf, reportOf, closeOf};
 pub fn arrive(connection: &mut Connection, request: Request) -> Arrival
     ensures { λ r. ⌜ (now (connection .exit) ≡ arriveOf (now (connection .entry)) request .connection) × (toldArrival r ≡ arriveOf (now (connection .entry)) request .answer) ⌝ }
 {
-    let after = connection::arrive::step(connection.control, connection.queue, request);
-    *connection = after.connection;
-    after.answer
+    let arrived = connection::arrive::step(connection.control, connection.queue, request);
+    *connection = arrived.connection;
+    arrived.answer
 }
 
 pub fn take(connection: &mut Connection) -> Taken
     ensures { λ r. ⌜ (now (connection .exit) ≡ takeOf (now (connection .entry)) .connection) × (toldTaken r ≡ takeOf (now (connection .entry)) .answer) ⌝ }
 {
-    let after = connection::take::step(connection.control, connection.queue);
-    *connection = after.connection;
-    after.answer
+    let taken = connection::take::step(connection.control, connection.queue);
+    *connection = taken.connection;
+    taken.answer
 }
 
 pub fn report(connection: &mut Connection, outcome: Outcome) -> Reported
     ensures { λ r. ⌜ (now (connection .exit) ≡ reportOf (now (connection .entry)) outcome .connection) × (toldReported r ≡ reportOf (now (connection .entry)) outcome .answer) ⌝ }
 {
-    let after = connection::report::step(connection.control, connection.queue, outcome);
-    *connection = after.connection;
-    after.answer
+    let reported = connection::report::step(connection.control, connection.queue, outcome);
+    *connection = reported.connection;
+    reported.answer
 }
 
 pub fn close(connection: &mut Connection) -> Closing
     ensures { λ r. ⌜ (now (connection .exit) ≡ closeOf (now (connection .entry)) .connection) × (toldClosing r ≡ closeOf (now (connection .entry)) .answer) ⌝ }
 {
-    let after = connection::close::step(connection.control, connection.queue);
-    *connection = after.connection;
-    after.answer
+    let closed = connection::close::step(connection.control, connection.queue);
+    *connection = closed.connection;
+    closed.answer
 }
