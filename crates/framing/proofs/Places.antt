@@ -11,6 +11,7 @@ use Rattle.framing.specs.Feed.{Waiting, chunk, header, Progress, done, w
 use Rattle.bolt.specs.Limits.{mostBytes}
 use Rattle.framing.specs.Reading.{closed, frameOf}
 use Rattle.framing.specs.Chunking.{chunked, writing}
+use Rattle.framing.specs.Places.{Claim}
 
 ended-placed : (alive : Bool) (got : List ℕ) (used : ℕ) → Placed (ended alive got used)
 ended-placed alive (b ∷ got) used = tt
@@ -35,11 +36,11 @@ module _ (alive : Bool) (room : ℕ) where
       let n : ℕ = bigEndian (high ∷ b ∷ []) in
       opened-placed (eqb n 0) (ltb mostBytes (length got + n)) (ltb room (length got + n)) got (used + 1) n (λ w. feed alive room w s) (feed-placed s)
 
-  pub frame-placed : (s : List ℕ) → Placed (frameOf alive room s)
+  frame-placed : (s : List ℕ) → Placed (frameOf alive room s)
   unfolding frameOf
   frame-placed s = feed-placed s start
 
-pub writing-placed : (c room : ℕ) (m : List ℕ) → Placed (writing c room m)
+writing-placed : (c room : ℕ) (m : List ℕ) → Placed (writing c room m)
 unfolding writing
 writing-placed c room m =
     by (eqb (length m) 0 || (eqb c 0 || ltb 65535 c)) (ltb mostBytes (length m)) (ltb room (length (chunked c m)))
@@ -49,3 +50,6 @@ writing-placed c room m =
     by false true z = λ e. refl
     by false false true = λ e. refl
     by false false false = tt
+
+pub places : Claim
+places = record { reading = frame-placed; writing = writing-placed }

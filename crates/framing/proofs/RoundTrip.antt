@@ -16,7 +16,7 @@ use Rattle.framing.specs.Feed.{message, chunk, feed}
 use Rattle.bolt.specs.Limits.{mostBytes}
 use Rattle.framing.specs.Reading.{closed, frameOf, used}
 use Rattle.framing.specs.Chunking.{chunkOf, end, remainder, wholes, chunked}
-use Rattle.framing.specs.RoundTrip.{Sent, chunks, empty, sendable, wire, arrives, allSendable, wireAll, arriveAll, framesOf, RoundTrip}
+use Rattle.framing.specs.RoundTrip.{Sent, chunks, empty, sendable, wire, arrives, allSendable, wireAll, arriveAll, framesOf, Claim}
 use Rattle.framing.proofs.Feeding.{feed-chunk, feed-header}
 use Rattle.framing.proofs.Scanning.{some-ended}
 use Rattle.framing.proofs.Chunking.{length-chunk}
@@ -106,5 +106,5 @@ module _ (alive : Bool) (room : ℕ) where
       let r : frameOf alive room (wire x ++ (wireAll xs ++ after)) ≡ result (arrives x) = one x (wireAll xs ++ after) (both .0) in
       rw (append-assoc (wire x) (wireAll xs) after, r, past x (wireAll xs ++ after), many xs after (both .1)) refl
 
-pub round-trip : (alive : Bool) (room : ℕ) → RoundTrip alive room
+pub round-trip : Claim
 round-trip alive room = record { one = one alive room; many = many alive room }

@@ -54,3 +54,7 @@ pub record RoundTrip (alive : Bool) (room : ℕ) : Type 0 where
   -- any number of them
   pub many : (xs : List Sent) (after : List ℕ) → allSendable alive room xs ≡ true
       → framesOf alive room (length xs) (wireAll xs ++ after) ≡ arriveAll xs
+
+-- with keep-alives and without them, into a lent buffer of any size
+abbrev pub Claim : Type 0
+Claim = (alive : Bool) (room : ℕ) → RoundTrip alive room

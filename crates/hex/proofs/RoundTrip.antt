@@ -9,7 +9,7 @@ use lib.ListN.{length}
 use Rattle.numbers.specs.BigEndian.{Bytes}
 use Rattle.refusal.specs.Answer.{result, refused}
 use Rattle.hex.specs.Hex.{isDigit, valueOf, digitOf, allDigits, isLine, toBytes, toDigits, into, decoding, encoding}
-use Rattle.hex.specs.RoundTrip.{RoundTrip}
+use Rattle.hex.specs.RoundTrip.{Claim}
 use Rattle.hex.proofs.Lines.{clash, value-lt, digit-value, digit-is, value-digit, line-even, line-pairs, length-bytes, length-digits, read, written}
 
 -- a result is the whole output
@@ -57,7 +57,7 @@ digits-of-bytes (high ∷ low ∷ s) e d =
     let b : (16 * valueOf high + valueOf low) % 16 ≡ valueOf low = omega arith in
     rw (a, b, digit-value high (p .0), digit-value low (q .0), digits-of-bytes s (omega (arith, e)) (q .1)) refl
 
-pub round-trip : (line bytes : List ℕ) (first second : ℕ) → RoundTrip line bytes first second
+pub round-trip : Claim
 unfolding encoding
 round-trip line bytes first second =
     record {

@@ -14,3 +14,7 @@ pub record RoundTrip (line bytes : List ℕ) (first second : ℕ) : Type 0 where
       → length bytes ≤ second → decoding second line ≡ result bytes
   -- a line whose bytes were read is written of them
   pub line-back : decoding first line ≡ result bytes → length line ≤ second → encoding second bytes ≡ result line
+
+-- of every line, all bytes and buffers of any size
+abbrev pub Claim : Type 0
+Claim = (line bytes : List ℕ) (first second : ℕ) → RoundTrip line bytes first second

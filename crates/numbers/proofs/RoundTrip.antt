@@ -11,7 +11,7 @@ use Rattle.slices.proofs.Parts.{part-sets}
 use Rattle.numbers.specs.BigEndian.{bigEndian, bytesOf, holds, Bytes}
 use Rattle.numbers.specs.TwosComplement.{twos, bitsOf, fitsIn}
 use Rattle.numbers.specs.Access.{unsignedAt, signedAt, signedOf}
-use Rattle.numbers.specs.RoundTrip.{RoundTrip}
+use Rattle.numbers.specs.RoundTrip.{Claim}
 use Rattle.numbers.specs.declared.Unsigned.the-variants as U
 use Rattle.numbers.specs.declared.Signed.the-variants as S
 use Rattle.numbers.proofs.BigEndian.{big-lt, length-bytesOf, read-back, write-back}
@@ -44,7 +44,7 @@ module _ (k : ℕ) where
   stored-integer d at z e l =
       ap (signedOf k) (stored-number d at (bitsOf k z) (bits-lt k z e) l) ∙ ap S.Number (twos-bits k z (width-least k (l .width)) e)
 
-pub round-trip : (k : ℕ) → RoundTrip k
+pub round-trip : Claim
 round-trip k =
     record {
       unsigned = read-back k;

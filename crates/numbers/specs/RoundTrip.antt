@@ -26,3 +26,7 @@ pub record RoundTrip (k : ℕ) : Type 0 where
       → unsignedAt (stored Written d at (bytesOf k n)) at k ≡ U.Number n
   pub signed-stored : (d : List ℕ) (at : ℕ) (z : ℤ) → storing (fitsIn k z) d at k ≡ Written
       → signedAt (stored Written d at (bytesOf k (bitsOf k z))) at k ≡ S.Number z
+
+-- of every width
+abbrev pub Claim : Type 0
+Claim = (k : ℕ) → RoundTrip k
