@@ -114,7 +114,7 @@ module _ (t : Table) (was : Option Request) (w : Awaits t was) where
     speaks : (x : Call) (s : State) (o : Open) (b : Bool) (summary : Summary) → inState s Defunct ≡ b → answeredBy was t x ≡ some r → ((a : Answer Said) → acceptedBy x a ≡ [])
         → Does x (answer t s o (cond b [] ws) summary)
     speaks x s o b summary d h quiet-call =
-        spoke r ws e (ap (λ (q : Option Request). record { number = t .sent + 1; request = q } ∷ []) h) refl (idles refl) refl refl (quiet-call (result (T.answered summary (t .sent + 1))))
+        spoke r ws e (ap (λ (q : Option Request). record { number = t .sent + 1; request = q } ∷ []) h) refl (idles refl) refl refl (quiet-call (result (T.answered summary (T.numberAfter (t .sent)))))
         (λ f. ap (λ (b : Bool). cond b [] ws) (sym d ∙ f))
 
     taking : (s : State) (o : Open) (summary : Summary) → inState s Defunct ≡ false → Does T.take (answer t s o ws summary)

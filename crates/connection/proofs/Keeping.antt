@@ -17,7 +17,7 @@ use Rattle.connection.specs.declared.answers.Summary.{Summary}
 use Rattle.connection.specs.declared.turn.Turn.{Turn}
 use Rattle.connection.specs.Requests.{is, inState}
 use Rattle.bolt.specs.Requests.{RESET}
-use Rattle.connection.specs.Table.{Open, Table, Done, queued, closed, idle, answered, noneOpen, defunct, enqueued, accept, answer, taken, takeFirst, turnOf}
+use Rattle.connection.specs.Table.{Open, Table, Done, queued, closed, idle, answered, noneOpen, defunct, enqueued, accept, numberAfter, answer, taken, takeFirst, turnOf}
 use Rattle.connection.specs.Record.{After, joined, front, linedUp, openOf, laid, kept, put, carried}
 use Rattle.connection.specs.Private.Queue.{behind, firstIn}
 use Rattle.connection.specs.Private.Parts.{defunctIn, countedIn, enqueuedIn, answeredIn, handedIn}
@@ -61,13 +61,13 @@ module _ (k : Control) (q : Queue) (f : Fits k q) where
 
   -- the first is answered
   pub put-answered : (s : State) (o : Open) (v : Streams) (left : ℕ) (ws : List Request) (summary : Summary) → v ≡ laid (k .streams) o → left ≡ length ws → behind q left ≡ ws
-      → record { connection = answeredIn k q s v left; answer = result (answered summary (k .sent + 1)) } ≡ carried (joined k q) (result (answer (kept (joined k q)) s o ws summary))
+      → record { connection = answeredIn k q s v left; answer = result (answered summary (numberAfter (k .sent))) } ≡ carried (joined k q) (result (answer (kept (joined k q)) s o ws summary))
   put-answered s o v left ws summary e g h = λ i. record {
     connection = record {
       control = record { state = s; «in_flight» = false; waiting = g i; streams = e i; accepted = k .accepted; sent = k .sent + 1 };
       queue = linedUp q (h i);
     };
-    answer = result (answered summary (k .sent + 1));
+    answer = result (answered summary (numberAfter (k .sent)));
   }
 
   -- the first is in flight
@@ -85,7 +85,7 @@ module _ (k : Control) (q : Queue) (f : Fits k q) where
   module _ (some : 0 < k .waiting) where
     -- it is answered, and those behind it wait
     pub answers : (s : State) (o : Open) (v : Streams) (summary : Summary) → v ≡ laid (k .streams) o
-        → record { connection = answeredIn k q s v (k .waiting - 1); answer = result (answered summary (k .sent + 1)) }
+        → record { connection = answeredIn k q s v (k .waiting - 1); answer = result (answered summary (numberAfter (k .sent))) }
         ≡ carried (joined k q) (result (answer (kept (joined k q)) s o (behind q (k .waiting - 1)) summary))
     answers s o v summary e =
         let n = f .few in put-answered s o v (k .waiting - 1) (behind q (k .waiting - 1)) summary e (sym (behind-length q (k .waiting - 1) (f .places) (omega arith))) refl

@@ -21,7 +21,7 @@ use Rattle.connection.specs.declared.answers.Summary.the-variants as S
 use Rattle.connection.specs.Requests.{isKind, kindOf, inState, inTransaction, is, fetches, asked, named}
 use Rattle.bolt.specs.Requests.{Kind, HELLO, RUN, BEGIN}
 use Rattle.connection.specs.Appendix.{newState, handsOver}
-use Rattle.connection.specs.Table.{Open, Table, Done, oneMore, oneLess, answer, answered, response, successStreams, streamsAfter, successSummary, summaryOf, waitingIn, settled, reported, fitting, reportFirst}
+use Rattle.connection.specs.Table.{Open, Table, Done, oneMore, oneLess, numberAfter, answer, answered, response, successStreams, streamsAfter, successSummary, summaryOf, waitingIn, settled, reported, fitting, reportFirst}
 use Rattle.connection.specs.Record.{joined, front, openOf, laid, kept, carried, toldReport}
 use Rattle.connection.specs.Private.Queue.{behind, firstIn}
 use Rattle.connection.specs.Private.Parts.{answeredIn, lastState, failureState, settledIn}
@@ -53,12 +53,12 @@ state-by s r q left b e f h = f (subst (λ (x : Request). handsOver s (kindOf x)
 
 -- ---- the whole outcome
 pub settle-is : (k : Control) (q : Queue) (r : Request) (o : Outcome) (summary : Summary) {after : Streams} {new : State} {b : Bool} {x : AfterReport}
-    → x ≡ record { connection = answeredIn k q new after (cond b 0 (k .waiting - 1)); answer = Answered summary (k .sent + 1) }
+    → x ≡ record { connection = answeredIn k q new after (cond b 0 (k .waiting - 1)); answer = Answered summary (numberAfter (k .sent)) }
     → after ≡ laid (k .streams) (streamsAfter o (k .state) (openOf (k .streams)) r) → new ≡ newState (k .state) (kindOf r) (response o r (after .count)) → inState new Defunct ≡ b → x ≡ settledIn k q r o summary
 settle-is k q r o summary d e f g =
     let n = f ∙ ap (λ (v : Streams). newState (k .state) (kindOf r) (response o r (v .count))) e in
     let left = ap (λ (t : Bool). cond t 0 (k .waiting - 1)) (sym g ∙ ap (λ (s : State). inState s Defunct) n) in
-    d ∙ (λ i. record { connection = answeredIn k q (n i) (e i) (left i); answer = Answered summary (k .sent + 1) })
+    d ∙ (λ i. record { connection = answeredIn k q (n i) (e i) (left i); answer = Answered summary (numberAfter (k .sent)) })
 
 module _ (k : Control) (q : Queue) (fits : Fits k q) (some : 0 < k .waiting) (o : Outcome) where
   abbrev first : Request
@@ -69,7 +69,7 @@ module _ (k : Control) (q : Queue) (fits : Fits k q) (some : 0 < k .waiting) (o 
 
   -- the first's outcome, with its own summary
   settles : (s : State) (a : Open) (b : Bool) → inState s Defunct ≡ b → (summary : Summary)
-      → record { connection = answeredIn k q s (laid (k .streams) a) (cond b 0 (k .waiting - 1)); answer = result (answered summary (k .sent + 1)) }
+      → record { connection = answeredIn k q s (laid (k .streams) a) (cond b 0 (k .waiting - 1)); answer = result (answered summary (numberAfter (k .sent))) }
       ≡ carried (joined k q) (result (answer (kept (joined k q)) s a (cond b [] rest) summary))
   settles s a true e summary = put-answered k q fits s a (laid (k .streams) a) 0 [] summary refl refl refl
   settles s a false e summary = answers k q fits some s a (laid (k .streams) a) summary refl

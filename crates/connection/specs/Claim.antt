@@ -5,6 +5,7 @@ use Prim.Native.Nat.{ℕ, zero, suc, _+_, _≤_}
 use mathlib.Core.Bool.{Bool, true, false, _&&_, _||_}
 use mathlib.Core.List.{List, [], _∷_, _++_}
 use mathlib.Core.Option.{Option, none, some}
+use lib.Dec.{leb}
 use lib.ListN.{length, take, drop}
 use Rattle.refusal.specs.Answer.{Answer, result, refused}
 use Rattle.connection.specs.declared.record.State.the-variants.{Interrupted, Failed, Defunct}
@@ -134,7 +135,7 @@ summaryBy r (result T.idle) = []
 summaryBy r (result (T.handed q number)) = []
 summaryBy r (result (T.answered summary number)) = record { number = number; request = r } ∷ []
 
--- where a request was handed over before them, and from the first call on
+-- the summaries of a list of calls, before which the request `was` was handed over; and from the first call on
 abbrev pub summariesFrom : Option Request → List Event → List Numbered
 summariesFrom was [] = []
 summariesFrom was (e ∷ es) = summaryBy (answeredBy was (e .before) (e .call)) (e .answer) ++ summariesFrom (awaited was (e .answer)) es
@@ -142,18 +143,9 @@ summariesFrom was (e ∷ es) = summaryBy (answeredBy was (e .before) (e .call)) 
 abbrev pub summaries : List Event → List Numbered
 summaries es = summariesFrom none es
 
--- ---- what is handed over where nothing may be
--- a request handed over by a take in FAILED or INTERRUPTED
-abbrev pub handsOne : Answer Said → Bool
-handsOne (refused number place) = false
-handsOne (result T.queued) = false
-handsOne (result T.closed) = false
-handsOne (result T.idle) = false
-handsOne (result (T.handed r number)) = true
-handsOne (result (T.answered summary number)) = false
-
+-- ---- a request handed over by a take in FAILED or INTERRUPTED
 abbrev pub wronglyHanded : Event → Bool
-wronglyHanded e = handsOne (e .answer) && (inState (e .before .state) Failed || inState (e .before .state) Interrupted)
+wronglyHanded e = leb 1 (length (handedBy (e .answer))) && (inState (e .before .state) Failed || inState (e .before .state) Interrupted)
 
 -- ---- the claim
 pub record Demand3 (calls : List Call) : Type 0 where

@@ -124,12 +124,16 @@ turnOf s o r =
     (cond (fetches r && not (namesOpen s o r)) U.Unknown U.Handed))
     U.Closes))
 
+-- a summary's number, from 1
+abbrev pub numberAfter : ℕ → ℕ
+numberAfter sent = sent + 1
+
 -- the first is answered: ws wait now, and one summary more is sent
 abbrev pub counted : Table → State → Open → List Request → Table
 counted t s o ws = record { state = s; waiting = ws; inFlight = false; streams = o; accepted = t .accepted; sent = t .sent + 1 }
 
 abbrev pub answer : Table → State → Open → List Request → Summary → Done
-answer t s o ws summary = record { table = counted t s o ws; said = answered summary (t .sent + 1) }
+answer t s o ws summary = record { table = counted t s o ws; said = answered summary (numberAfter (t .sent)) }
 
 -- the turn of r, with ws behind it
 abbrev pub taken : Turn → Table → Request → List Request → Done

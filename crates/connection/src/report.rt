@@ -26,7 +26,7 @@ ghost use Rattle.connection.specs.declared.answers.Reported.the-variants
 ghost use Rattle.connection.specs.Requests.{is, kindOf};
 ghost use Rattle.bolt.specs.Requests.{RUN};
 ghost use Rattle.connection.specs.Appendix.{newState, handsOver};
-ghost use Rattle.connection.specs.Table.{isFull, fitting, response, successStreams, streamsAfter, successSummary, summaryOf, reportFirst};
+ghost use Rattle.connection.specs.Table.{isFull, numberAfter, fitting, response, successStreams, streamsAfter, successSummary, summaryOf, reportFirst};
 ghost use Rattle.connection.specs.Record.{joined, front, openOf, laid, kept, carried, toldReport, reportOf};
 ghost use Rattle.connection.specs.Private.Parts.{Reporting, Settling, answeredIn, lastState, failureState, settledIn};
 
@@ -244,12 +244,13 @@ fn sum_up(
     summary: Summary,
 ) -> AfterReport
     requires { ⌜ (left < 32) × (control .sent < 4294967295) ⌝ }
-    ensures { λ r. ⌜ r ≡ record { connection = answeredIn control queue state streams left; answer = Answered summary (control .sent + 1) } ⌝ }
+    ensures { λ r. ⌜ r ≡ record { connection = answeredIn control queue state streams left; answer = Answered summary (numberAfter (control .sent)) } ⌝ }
 {
     let connection = changes::answered(control, queue, state, streams, left);
+    let number = control.sent + 1;
     let answer = Reported::Answered {
         summary: summary,
-        number: control.sent + 1,
+        number: number,
     };
     AfterReport {
         connection: connection,

@@ -23,7 +23,7 @@ ghost use Rattle.refusal.specs.Answer.{result};
 ghost use Rattle.connection.specs.declared.record.State.the-variants.{Failed};
 ghost use Rattle.connection.specs.declared.answers.Summary.the-variants.{Failure as FAILURE};
 ghost use Rattle.connection.specs.declared.answers.Taken.the-variants.{Answered};
-ghost use Rattle.connection.specs.Table.{takeFirst};
+ghost use Rattle.connection.specs.Table.{numberAfter, takeFirst};
 ghost use Rattle.connection.specs.Record.{joined, front, kept, carried, toldTake, takeOf};
 ghost use Rattle.connection.specs.Private.Parts.{Answering, answeredIn, clearedIn};
 
@@ -113,12 +113,13 @@ fn sum_up(
     summary: Summary,
 ) -> AfterTake
     requires { ⌜ Answering control ⌝ }
-    ensures { λ r. ⌜ r ≡ record { connection = answeredIn control queue state streams (control .waiting - 1); answer = Answered summary (control .sent + 1) } ⌝ }
+    ensures { λ r. ⌜ r ≡ record { connection = answeredIn control queue state streams (control .waiting - 1); answer = Answered summary (numberAfter (control .sent)) } ⌝ }
 {
     let connection = changes::answered(control, queue, state, streams, control.waiting - 1);
+    let number = control.sent + 1;
     let answer = Taken::Answered {
         summary: summary,
-        number: control.sent + 1,
+        number: number,
     };
     AfterTake {
         connection: connection,

@@ -21,7 +21,7 @@ use Rattle.connection.specs.declared.answers.AfterTake.{AfterTake}
 use Rattle.connection.specs.Requests.{is, isKind, kindOf, inState}
 use Rattle.bolt.specs.Requests.{Kind, HELLO, RUN}
 use Rattle.connection.specs.Appendix.{handsOver, newState}
-use Rattle.connection.specs.Table.{Open, noneOpen, isFull, fitting, response, streamsAfter}
+use Rattle.connection.specs.Table.{Open, noneOpen, isFull, numberAfter, fitting, response, streamsAfter}
 use Rattle.connection.specs.Rules.{mayBeInFlight}
 use Rattle.connection.specs.Record.{joined, front, linedUp, openOf, laid}
 use Rattle.connection.specs.Private.Queue.{behind, firstIn}
@@ -71,7 +71,7 @@ answeredIn k q s v left =
 abbrev pub clearedIn : Control → Queue → State → Summary → AfterTake
 clearedIn k q s summary = record {
   connection = answeredIn k q s (laid (k .streams) (noneOpen (openOf (k .streams)))) (k .waiting - 1);
-  answer = T.Answered summary (k .sent + 1);
+  answer = T.Answered summary (numberAfter (k .sent));
 }
 
 -- the first is in flight
@@ -90,4 +90,4 @@ abbrev pub settledIn : Control → Queue → Request → Outcome → Summary →
 settledIn k q r o summary =
     let after : Open = streamsAfter o (k .state) (openOf (k .streams)) r in
     let new : State = newState (k .state) (kindOf r) (response o r (length (after .numbers))) in
-    record { connection = answeredIn k q new (laid (k .streams) after) (cond (inState new Defunct) 0 (k .waiting - 1)); answer = Answered summary (k .sent + 1) }
+    record { connection = answeredIn k q new (laid (k .streams) after) (cond (inState new Defunct) 0 (k .waiting - 1)); answer = Answered summary (numberAfter (k .sent)) }

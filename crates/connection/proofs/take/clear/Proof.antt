@@ -1,9 +1,10 @@
 -- `connection::take::clear` meets its contract: with the streams emptied. Assumes nothing.
 use borrow.Author.Needs.{needs}
 use mathlib.Core.Path.{ap, _∙_}
-use Prim.Native.Nat.{_+_, _-_}
+use Prim.Native.Nat.{_-_}
 use Rattle.connection.specs.declared.record.Streams.{Streams}
 use Rattle.connection.specs.declared.answers.Taken.the-variants.{Answered}
+use Rattle.connection.specs.Table.{numberAfter}
 use Rattle.connection.specs.Private.Parts.{answeredIn}
 use Rattle.connection.proofs.take.clear.Statement.{statement}
 use Rattle.connection.proofs.take.clear.Tie as tie
@@ -18,7 +19,7 @@ returns : tie.Need-returns
 returns c =
     let a = c .before .before .before .args in
     c .sum-up .ensures
-    ∙ ap (λ (v : Streams). record { connection = answeredIn (a .control) (a .queue) (a .state) v (a .control .waiting - 1); answer = Answered (a .summary) (a .control .sent + 1) }) (c .before .none-open .ensures)
+    ∙ ap (λ (v : Streams). record { connection = answeredIn (a .control) (a .queue) (a .state) v (a .control .waiting - 1); answer = Answered (a .summary) (numberAfter (a .control .sent)) }) (c .before .none-open .ensures)
 
 pub clear-spec : {M : Type 1} → statement M
 clear-spec = tie.close (tie.spec none-open-requires sum-up-requires returns)
