@@ -17,7 +17,10 @@ proposals s = part s 4 4 ∷ part s 8 4 ∷ part s 12 4 ∷ part s 16 4 ∷ []
 
 -- "4.0 `00 00 00 04`, 4.1 `00 00 01 04`, 4.2 `00 00 02 04`"
 abbrev pub isKnown : List ℕ → Bool
-isKnown p = same p (0x00 ∷ 0x00 ∷ 0x00 ∷ 0x04 ∷ []) || (same p (0x00 ∷ 0x00 ∷ 0x01 ∷ 0x04 ∷ []) || same p (0x00 ∷ 0x00 ∷ 0x02 ∷ 0x04 ∷ []))
+isKnown p =
+    same p (0x00 ∷ 0x00 ∷ 0x00 ∷ 0x04 ∷ [])
+    || (same p (0x00 ∷ 0x00 ∷ 0x01 ∷ 0x04 ∷ [])
+    || same p (0x00 ∷ 0x00 ∷ 0x02 ∷ 0x04 ∷ []))
 
 -- the first that is known
 abbrev pub firstKnown : List (List ℕ) → Option (List ℕ)
