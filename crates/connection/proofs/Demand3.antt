@@ -1,17 +1,17 @@
 -- Demand 3 holds of every list of calls: the theorem `demand3`. Beside it: `checked`, when a call gives 24. Assumes nothing.
 use mathlib.Core.Path.{_≡_, refl, sym, ap, _∙_, subst}
-use mathlib.Core.Bool.{Bool, true, false, cond, true≢false, _||_}
+use mathlib.Core.Bool.{Bool, true, false, cond, true≢false, _||_, and-eq-true-iff}
 use mathlib.Core.List.{List, [], _∷_, _++_, map, append-assoc, append-nil}
 use mathlib.Core.Option.{Option, none, some}
 use mathlib.Core.Logic.{⊎-elim, _⊎_, inl, inr}
-use Prim.Native.Nat.{ℕ, _+_, _-_}
+use Prim.Native.Nat.{ℕ, _+_, _-_, _≤_}
 use native.Mathlib.Nat.{add-zero, zero-add}
 use native.Mathlib.Numerals.{add-one}
 use native.Mathlib.Omega.{arith}
-use lib.Dec.{leb}
+use lib.Dec.{ltb, leb}
 use lib.ListN.{length, take, length-append}
 use lib.Seq.{length-sets, drop-at}
-use borrow.Author.Tests.{le-leb}
+use borrow.Author.Tests.{le-leb, lt-ltb, ltb-true}
 use Rattle.refusal.specs.Answer.{Answer, result, refused}
 use Rattle.connection.specs.declared.record.State.{State}
 use Rattle.connection.specs.declared.record.State.the-variants.{Connected, Ready, Failed, Interrupted, Defunct}
@@ -30,7 +30,7 @@ use Rattle.connection.specs.Table as T
 use Rattle.connection.specs.Table.{Open, Table, Call, Said, Done, start, step, defunct, enqueued, accept, turnOf, answer, taken, takeFirst, response, streamsAfter, reported, fitting, reportFirst}
 use Rattle.connection.specs.Record.{After, kept, put, slot, keepsRules, carried, called, fresh}
 use Rattle.connection.specs.Rules.{isHanded}
-use Rattle.connection.specs.Claim.{callOf, Event, run, events, saidBy, leftBy, runT, eventsT, acceptedBy, requests, Numbered, first, nth, numbered, lookedUp, handedBy, handedOver, awaited, answeredBy, summaryBy, summariesFrom, summaries, wronglyHanded, Demand3, Checked, Claim}
+use Rattle.connection.specs.Claim.{callOf, Event, run, events, saidBy, leftBy, runT, eventsT, acceptedBy, requests, Numbered, first, nth, numbered, lookedUp, rising, handedBy, handedOver, awaited, answeredBy, summaryBy, summariesFrom, summaries, wronglyHanded, Demand3, Checked, Claim}
 use Rattle.connection.proofs.Bools.{by-test, and-both}
 use Rattle.connection.proofs.Calls.{broken, standing}
 use Rattle.connection.proofs.Invariant.{Keeps, step-keeps, start-keeps, keeps-rules}
@@ -56,19 +56,19 @@ awaits-more t was (flies q ws e w) s o r = flies q (ws ++ (r ∷ [])) (ap (λ (l
 
 -- ---- what a step of the table does to the queue: it sends no summary, or one for the first that waits
 -- what it hands over is the first
-data Hands (t : Table) (s : Answer Said) : Type 0 where
-  none-handed : handedBy s ≡ [] → Hands t s
-  first-handed : (r : Request) (ws : List Request) → t .waiting ≡ r ∷ ws → handedBy s ≡ record { number = t .sent + 1; request = some r } ∷ [] → Hands t s
+data Hands (t u : Table) (s : Answer Said) : Type 0 where
+  none-handed : handedBy s ≡ [] → (inState (u .state) Defunct ≡ false → u .inFlight ≡ t .inFlight) → Hands t u s
+  first-handed : (r : Request) (ws : List Request) → t .waiting ≡ r ∷ ws → handedBy s ≡ record { number = t .sent + 1; request = some r } ∷ [] → t .inFlight ≡ false → u .inFlight ≡ true → Hands t u s
 
 data Moved (t : Table) (was : Option Request) (x : Call) (u : Table) (s : Answer Said) : Type 0 where
-  quiet : summaryBy (answeredBy was t x) s ≡ [] → Hands t s → Awaits u (awaited was s) → u .sent ≡ t .sent → u .accepted ≡ t .accepted + length (acceptedBy x s)
+  quiet : summaryBy (answeredBy was t x) s ≡ [] → Hands t u s → Awaits u (awaited was s) → u .sent ≡ t .sent → u .accepted ≡ t .accepted + length (acceptedBy x s)
       → (inState (u .state) Defunct ≡ false → t .waiting ++ acceptedBy x s ≡ u .waiting) → Moved t was x u s
-  spoke : (r : Request) (ws : List Request) → t .waiting ≡ r ∷ ws → summaryBy (answeredBy was t x) s ≡ record { number = t .sent + 1; request = some r } ∷ [] → handedBy s ≡ [] → Awaits u (awaited was s)
+  spoke : (r : Request) (ws : List Request) → t .waiting ≡ r ∷ ws → summaryBy (answeredBy was t x) s ≡ record { number = t .sent + 1; request = some r } ∷ [] → handedBy s ≡ [] → u .inFlight ≡ false → Awaits u (awaited was s)
       → u .sent ≡ t .sent + 1 → u .accepted ≡ t .accepted → acceptedBy x s ≡ [] → (inState (u .state) Defunct ≡ false → u .waiting ≡ ws) → Moved t was x u s
 
 awaits-on : (t : Table) (was : Option Request) (x : Call) (u : Table) (s : Answer Said) → Moved t was x u s → Awaits u (awaited was s)
 awaits-on t was x u s (quiet z h w p q f) = w
-awaits-on t was x u s (spoke r ws e z h w p q b f) = w
+awaits-on t was x u s (spoke r ws e z h g w p q b f) = w
 
 module _ (t : Table) (was : Option Request) (w : Awaits t was) where
   abbrev Moves : Call → Answer Done → Type 0
@@ -78,7 +78,7 @@ module _ (t : Table) (was : Option Request) (w : Awaits t was) where
   Does x d = Moves x (result d)
 
   -- nothing is accepted and nothing waits otherwise
-  still : (x : Call) (u : Table) (s : Answer Said) → summaryBy (answeredBy was t x) s ≡ [] → Hands t s → Awaits u (awaited was s) → acceptedBy x s ≡ [] → u .sent ≡ t .sent → u .accepted ≡ t .accepted
+  still : (x : Call) (u : Table) (s : Answer Said) → summaryBy (answeredBy was t x) s ≡ [] → Hands t u s → Awaits u (awaited was s) → acceptedBy x s ≡ [] → u .sent ≡ t .sent → u .accepted ≡ t .accepted
       → (inState (u .state) Defunct ≡ false → u .waiting ≡ t .waiting) → Moved t was x u s
   still x u s z h v a p q f =
       quiet z h v p (q ∙ sym (ap (λ (l : List Request). t .accepted + length l) a ∙ add-zero (t .accepted))) (λ d. ap (λ (l : List Request). t .waiting ++ l) a ∙ append-nil (t .waiting) ∙ sym (f d))
@@ -90,15 +90,15 @@ module _ (t : Table) (was : Option Request) (w : Awaits t was) where
   none-accepted T.close number place = refl
 
   refuses : (x : Call) (number place : ℕ) → Moves x (refused number place)
-  refuses x number place = still x t (refused number place) refl (none-handed refl) w (none-accepted x number place) refl refl (λ _. refl)
+  refuses x number place = still x t (refused number place) refl (none-handed refl (λ _. refl)) w (none-accepted x number place) refl refl (λ _. refl)
 
   -- ---- arrive
   moved-accept : (r : Request) → Does (T.arrive r) (accept t r)
   moved-accept r =
       by-test (Does (T.arrive r)) (is RESET r)
-      (λ _. by-test (Does (T.arrive r)) (inState (t .state) Connected) (λ _. quiet refl (none-handed refl) (idles refl) refl refl (λ d. absurd (true≢false d)))
-      (λ _. quiet refl (none-handed refl) (awaits-more t was w Interrupted (T.noneOpen (t .streams)) r) refl refl (λ _. refl)))
-      (λ _. quiet refl (none-handed refl) (awaits-more t was w (t .state) (t .streams) r) refl refl (λ _. refl))
+      (λ _. by-test (Does (T.arrive r)) (inState (t .state) Connected) (λ _. quiet refl (none-handed refl (λ d. absurd (true≢false d))) (idles refl) refl refl (λ d. absurd (true≢false d)))
+      (λ _. quiet refl (none-handed refl (λ _. refl)) (awaits-more t was w Interrupted (T.noneOpen (t .streams)) r) refl refl (λ _. refl)))
+      (λ _. quiet refl (none-handed refl (λ _. refl)) (awaits-more t was w (t .state) (t .streams) r) refl refl (λ _. refl))
 
   moved-arrive : (r : Request) → Moves (T.arrive r) (T.arriveT t r)
   moved-arrive r =
@@ -114,24 +114,24 @@ module _ (t : Table) (was : Option Request) (w : Awaits t was) where
     speaks : (x : Call) (s : State) (o : Open) (b : Bool) (summary : Summary) → inState s Defunct ≡ b → answeredBy was t x ≡ some r → ((a : Answer Said) → acceptedBy x a ≡ [])
         → Does x (answer t s o (cond b [] ws) summary)
     speaks x s o b summary d h quiet-call =
-        spoke r ws e (ap (λ (q : Option Request). record { number = t .sent + 1; request = q } ∷ []) h) refl (idles refl) refl refl (quiet-call (result (T.answered summary (T.numberAfter (t .sent)))))
+        spoke r ws e (ap (λ (q : Option Request). record { number = t .sent + 1; request = q } ∷ []) h) refl refl (idles refl) refl refl (quiet-call (result (T.answered summary (T.numberAfter (t .sent)))))
         (λ f. ap (λ (b : Bool). cond b [] ws) (sym d ∙ f))
 
     taking : (s : State) (o : Open) (summary : Summary) → inState s Defunct ≡ false → Does T.take (answer t s o ws summary)
     taking s o summary d = speaks T.take s o false summary d (ap first e) (λ _. refl)
 
-    moved-taken : (u : Turn) → inState (t .state) Defunct ≡ false → Does T.take (taken u t r ws)
-    moved-taken U.Closes alive = still T.take (defunct t) (result T.closed) refl (none-handed refl) (idles refl) refl refl refl (λ d. absurd (true≢false d))
-    moved-taken U.Resets alive = by-reset (any (is RESET) ws)
+    moved-taken : (u : Turn) → t .inFlight ≡ false → inState (t .state) Defunct ≡ false → Does T.take (taken u t r ws)
+    moved-taken U.Closes free alive = still T.take (defunct t) (result T.closed) refl (none-handed refl (λ d. absurd (true≢false d))) (idles refl) refl refl refl (λ d. absurd (true≢false d))
+    moved-taken U.Resets free alive = by-reset (any (is RESET) ws)
       where
         by-reset : (b : Bool) → Does T.take (answer t (cond b Interrupted Ready) (T.noneOpen (t .streams)) ws S.Success)
         by-reset true = taking Interrupted (T.noneOpen (t .streams)) S.Success refl
         by-reset false = taking Ready (T.noneOpen (t .streams)) S.Success refl
-    moved-taken U.Ignored alive = taking (t .state) (t .streams) S.Ignored alive
-    moved-taken U.Handed alive =
-        still T.take (taken U.Handed t r ws .table) (result (taken U.Handed t r ws .said)) refl (first-handed r ws e refl) (flies r ws e refl) refl refl refl (λ _. refl)
-    moved-taken U.Full alive = taking Failed (T.noneOpen (t .streams)) (S.Failure StreamsFull) refl
-    moved-taken U.Unknown alive = taking Failed (T.noneOpen (t .streams)) (S.Failure StreamUnknown) refl
+    moved-taken U.Ignored free alive = taking (t .state) (t .streams) S.Ignored alive
+    moved-taken U.Handed free alive =
+        still T.take (taken U.Handed t r ws .table) (result (taken U.Handed t r ws .said)) refl (first-handed r ws e refl free refl) (flies r ws e refl) refl refl refl (λ _. refl)
+    moved-taken U.Full free alive = taking Failed (T.noneOpen (t .streams)) (S.Failure StreamsFull) refl
+    moved-taken U.Unknown free alive = taking Failed (T.noneOpen (t .streams)) (S.Failure StreamUnknown) refl
 
     moved-reported : (o : Outcome) → t .inFlight ≡ true → inState (t .state) Defunct ≡ false → Does (T.report o) (reported o t r ws)
     moved-reported o inflight alive =
@@ -142,9 +142,9 @@ module _ (t : Table) (was : Option Request) (w : Awaits t was) where
         by-test (Does (T.report o)) (inState (t .state) Interrupted) (λ _. speaks (T.report o) (t .state) (t .streams) false summary alive for (λ _. refl))
         (λ _. speaks (T.report o) new after (inState new Defunct) summary refl for (λ _. refl))
 
-  moved-first : inState (t .state) Defunct ≡ false → (l : List Request) → t .waiting ≡ l → Does T.take (takeFirst t l)
-  moved-first alive [] e = still T.take t (result T.idle) refl (none-handed refl) w refl refl refl (λ _. refl)
-  moved-first alive (r ∷ ws) e = moved-taken r ws e (turnOf (t .state) (t .streams) r) alive
+  moved-first : t .inFlight ≡ false → inState (t .state) Defunct ≡ false → (l : List Request) → t .waiting ≡ l → Does T.take (takeFirst t l)
+  moved-first free alive [] e = still T.take t (result T.idle) refl (none-handed refl (λ _. refl)) w refl refl refl (λ _. refl)
+  moved-first free alive (r ∷ ws) e = moved-taken r ws e (turnOf (t .state) (t .streams) r) free alive
 
   moved-outcome : t .inFlight ≡ true → inState (t .state) Defunct ≡ false → (o : Outcome) (l : List Request) → t .waiting ≡ l → Moves (T.report o) (reportFirst o t l)
   moved-outcome inflight alive o [] e = refuses (T.report o) 19 0
@@ -154,14 +154,14 @@ module _ (t : Table) (was : Option Request) (w : Awaits t was) where
   moved (T.arrive r) = moved-arrive r
   moved T.take =
       by-test (Moves T.take) (inState (t .state) Defunct) (λ _. refuses T.take 18 0)
-      (λ alive. by-test (Does T.take) (t .inFlight) (λ _. still T.take t (result T.idle) refl (none-handed refl) w refl refl refl (λ _. refl))
-      (λ _. moved-first alive (t .waiting) refl))
+      (λ alive. by-test (Does T.take) (t .inFlight) (λ _. still T.take t (result T.idle) refl (none-handed refl (λ _. refl)) w refl refl refl (λ _. refl))
+      (λ free. moved-first free alive (t .waiting) refl))
   moved (T.report o) =
       by-test (Moves (T.report o)) (inState (t .state) Defunct) (λ _. refuses (T.report o) 18 0)
       (λ alive. by-test (Moves (T.report o)) (t .inFlight) (λ inflight. moved-outcome inflight alive o (t .waiting) refl) (λ _. refuses (T.report o) 19 0))
   moved T.close =
       by-test (Moves T.close) (inState (t .state) Defunct) (λ _. refuses T.close 18 0)
-      (λ _. still T.close (defunct t) (result T.closed) refl (none-handed refl) (idles refl) refl refl refl (λ d. absurd (true≢false d)))
+      (λ _. still T.close (defunct t) (result T.closed) refl (none-handed refl (λ d. absurd (true≢false d))) (idles refl) refl refl refl (λ d. absurd (true≢false d)))
 
 -- ---- no request is handed over in FAILED or INTERRUPTED
 abbrev Rightly : Table → Call → Answer Done → Type 0
@@ -202,6 +202,10 @@ module _ (t : Table) where
       (λ _. by-test (Rightly t (T.report o)) (t .inFlight) (λ _. rightly-outcome o (t .waiting)) (λ _. refl))
   rightly T.close = by-test (Rightly t T.close) (inState (t .state) Defunct) (λ _. refl) (λ _. refl)
 
+either : (b : Bool) → (b ≡ true) ⊎ (b ≡ false)
+either true = inl refl
+either false = inr refl
+
 -- ---- in DEFUNCT every call is refused, and nothing changes
 dead : (t : Table) (x : Call) → inState (t .state) Defunct ≡ true → step t x ≡ refused 18 0
 dead t (T.arrive r) e = rw e
@@ -229,12 +233,47 @@ nth-next : (before l : List Request) (r : Request) (n : ℕ) → length before �
 nth-next before l r n e = ap (λ (k : ℕ). nth k (before ++ (r ∷ l))) (add-one n) ∙ ap first (drop-at before (r ∷ l) n e)
 
 -- as many as were sent came before those that wait
-right-more : (t : Table) (s : Answer Said) (before l : List Request) (hs : List Numbered) → Hands t s → length before ≡ t .sent → Right (before ++ (t .waiting ++ l)) hs
+right-more : (t u : Table) (s : Answer Said) (before l : List Request) (hs : List Numbered) → Hands t u s → length before ≡ t .sent → Right (before ++ (t .waiting ++ l)) hs
     → Right (before ++ (t .waiting ++ l)) (handedBy s ++ hs)
-right-more t s before l hs (none-handed z) n h = subst (Right (before ++ (t .waiting ++ l))) (ap (λ (a : List Numbered). a ++ hs) (sym z)) h
-right-more t s before l hs (first-handed r ws e z) n h =
+right-more t u s before l hs (none-handed z f) n h = subst (Right (before ++ (t .waiting ++ l))) (ap (λ (a : List Numbered). a ++ hs) (sym z)) h
+right-more t u s before l hs (first-handed r ws e z f g) n h =
     let right : nth (t .sent + 1) (before ++ (t .waiting ++ l)) ≡ some r = ap (λ (v : List Request). nth (t .sent + 1) (before ++ (v ++ l))) e ∙ nth-next before (ws ++ l) r (t .sent) n in
     subst (Right (before ++ (t .waiting ++ l))) (ap (λ (a : List Numbered). a ++ hs) (sym z)) (λ i. record { number = t .sent + 1; request = sym right i } ∷ h i)
+
+-- ---- nothing is handed over twice
+-- the number last handed over: that of the request in flight, or else at most that of the last that was answered
+abbrev latest : Table → ℕ
+latest t = cond (t .inFlight) (t .sent + 1) (t .sent)
+
+latest-is : (t : Table) (b : Bool) → t .inFlight ≡ b → latest t ≡ cond b (t .sent + 1) (t .sent)
+latest-is t b e = ap (λ (b : Bool). cond b (t .sent + 1) (t .sent)) e
+
+latest-most : (t : Table) → latest t ≤ t .sent + 1
+latest-most t = by (t .inFlight)
+  where
+    by : (b : Bool) → cond b (t .sent + 1) (t .sent) ≤ t .sent + 1
+    by true = omega arith
+    by false = omega arith
+
+rising-from : (n m : ℕ) (hs : List Numbered) → n ≤ m → rising m hs ≡ true → rising n hs ≡ true
+rising-from n m [] h e = refl
+rising-from n m (x ∷ hs) h e =
+    let p = and-eq-true-iff (ltb m (x .number)) (rising (x .number) hs) .0 e in
+    and-both _ _ (lt-ltb n (x .number) (omega (arith, ltb-true m (x .number) (p .0)))) (p .1)
+
+rising-none : (n : ℕ) (hs : List Numbered) → hs ≡ [] → rising n hs ≡ true
+rising-none n hs e = ap (rising n) e
+
+rising-more : (t u : Table) (s : Answer Said) (hs : List Numbered) → u .sent ≡ t .sent → Hands t u s → (inState (u .state) Defunct ≡ true → hs ≡ []) → rising (latest u) hs ≡ true
+    → rising (latest t) (handedBy s ++ hs) ≡ true
+rising-more t u s hs e (none-handed z f) dies h =
+    ap (λ (a : List Numbered). rising (latest t) (a ++ hs)) z
+    ∙ ⊎-elim (λ d. rising-none (latest t) hs (dies d))
+    (λ d. subst (λ (n : ℕ). rising n hs ≡ true) (λ i. cond (f d i) (e i + 1) (e i)) h) (either (inState (u .state) Defunct))
+rising-more t u s hs e (first-handed r ws w z f g) dies h =
+    ap (λ (a : List Numbered). rising (latest t) (a ++ hs)) z
+    ∙ and-both _ _ (ap (λ (n : ℕ). ltb n (t .sent + 1)) (latest-is t false f) ∙ lt-ltb (t .sent) (t .sent + 1) (omega arith))
+    (subst (λ (n : ℕ). rising n hs ≡ true) (latest-is u true g ∙ ap (λ (n : ℕ). n + 1) e) h)
 
 -- ---- the whole run of the table
 record Told (t : Table) (was : Option Request) (calls : List Call) : Type 0 where
@@ -242,6 +281,7 @@ record Told (t : Table) (was : Option Request) (calls : List Call) : Type 0 wher
   accepted : runT t calls .accepted ≡ t .accepted + length (requests (eventsT t calls))
   kth : summariesFrom was (eventsT t calls) ≡ numbered (t .sent + 1) (take (length (summariesFrom was (eventsT t calls))) (t .waiting ++ requests (eventsT t calls)))
   handed : (before : List Request) → length before ≡ t .sent → Right (before ++ (t .waiting ++ requests (eventsT t calls))) (handedOver (eventsT t calls))
+  once : rising (latest t) (handedOver (eventsT t calls)) ≡ true
   never : any wronglyHanded (eventsT t calls) ≡ false
 
 -- the k-th rule, over a call that sends nothing, and over one that sends a summary
@@ -260,10 +300,6 @@ kth-last : (a b : List Numbered) (k : ℕ) (r : Request) (l all : List Request) 
 kth-last a b k r l all e d f =
     let whole : a ≡ record { number = k; request = some r } ∷ [] = e ∙ ap (λ (z : List Numbered). record { number = k; request = some r } ∷ z) d in
     whole ∙ (λ i. numbered k (take (length (sym whole i)) (sym f i)))
-
-either : (b : Bool) → (b ≡ true) ⊎ (b ≡ false)
-either true = inl refl
-either false = inr refl
 
 module _ (t : Table) (was : Option Request) (x : Call) (xs : List Call) (rest : Told (leftBy t (step t x)) (awaited was (saidBy (step t x))) xs) where
   abbrev u : Table
@@ -313,11 +349,12 @@ module _ (t : Table) (was : Option Request) (x : Call) (xs : List Call) (rest : 
         kth = ⊎-elim (λ d. kth-ended all-summaries (t .sent + 1) all-requests (all ∙ no-summary u d (awaited was said) xs))
             (λ d. kth-quiet all-summaries ss (t .sent + 1) (u .sent + 1) all-requests (u .waiting ++ rs) all (ap (λ (k : ℕ). k + 1) s) (same d) (rest .kth))
             (either (inState (u .state) Defunct));
-        handed = λ before n. right-more t said before (requests (eventsT t (x ∷ xs))) hs h n
+        handed = λ before n. right-more t u said before (requests (eventsT t (x ∷ xs))) hs h n
             (⊎-elim (λ d. right-none (before ++ all-requests) hs (none-more u d xs)) (λ d. right-quiet before (n ∙ sym s) (sym (same d))) (either (inState (u .state) Defunct)));
+        once = rising-more t u said hs s h (λ d. none-more u d xs) (rest .once);
         never = none-wrongly;
       }
-  told-more (spoke r ws e z h w s a b f) =
+  told-more (spoke r ws e z h g w s a b f) =
       let all : all-summaries ≡ record { number = t .sent + 1; request = some r } ∷ ss = ap (λ (l : List Numbered). l ++ ss) z in
       let same : requests (eventsT t (x ∷ xs)) ≡ rs = ap (λ (l : List Request). l ++ rs) b in
       let whole : all-requests ≡ r ∷ (ws ++ rs) = (λ i. e i ++ same i) in
@@ -331,11 +368,12 @@ module _ (t : Table) (was : Option Request) (x : Call) (xs : List Call) (rest : 
         handed = λ before n. subst (Right (before ++ all-requests)) (ap (λ (l : List Numbered). l ++ hs) (sym h))
             (⊎-elim (λ d. right-none (before ++ all-requests) hs (none-more u d xs))
             (λ d. right-spoke before r (ap (λ (k : ℕ). k + 1) n ∙ sym s) (whole ∙ ap (λ (l : List Request). r ∷ (l ++ rs)) (sym (f d)))) (either (inState (u .state) Defunct)));
+        once = ap (λ (a : List Numbered). rising (latest t) (a ++ hs)) h ∙ rising-from (latest t) (latest u) hs (subst (λ (n : ℕ). latest t ≤ n) (sym (latest-is u false g ∙ s)) (latest-most t)) (rest .once);
         never = none-wrongly;
       }
 
 told : (t : Table) (was : Option Request) → Awaits t was → (calls : List Call) → Told t was calls
-told t was w [] = record { sent = sym (add-zero (t .sent)); accepted = sym (add-zero (t .accepted)); kth = refl; handed = λ before n. refl; never = refl }
+told t was w [] = record { sent = sym (add-zero (t .sent)); accepted = sym (add-zero (t .accepted)); kth = refl; handed = λ before n. refl; once = refl; never = refl }
 told t was w (x ∷ xs) =
     let m : Moved t was x (leftBy t (step t x)) (saidBy (step t x)) = moved t was w x in
     told-more t was x xs (told (leftBy t (step t x)) (awaited was (saidBy (step t x))) (awaits-on t was x (leftBy t (step t x)) (saidBy (step t x)) m) xs) m
@@ -429,6 +467,7 @@ demand3 calls =
       most = ⊎-elim (λ d. k .gone d .1) (λ d. let e = k .sum d in omega arith) (either (inState (c .control .state) Defunct));
       kth = subst (λ (l : List Event). summaries l ≡ numbered 1 (take (length (summaries l)) (requests l))) back (g .kth);
       handed = subst (λ (l : List Event). Right (requests l) (handedOver l)) back (g .handed [] refl);
+      once = subst (λ (l : List Event). rising 0 (handedOver l) ≡ true) back (g .once);
       never = subst (λ (l : List Event). any wronglyHanded l ≡ false) back (g .never);
     }
 

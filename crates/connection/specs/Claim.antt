@@ -5,7 +5,7 @@ use Prim.Native.Nat.{ℕ, zero, suc, _+_, _≤_}
 use mathlib.Core.Bool.{Bool, true, false, _&&_, _||_}
 use mathlib.Core.List.{List, [], _∷_, _++_}
 use mathlib.Core.Option.{Option, none, some}
-use lib.Dec.{leb}
+use lib.Dec.{ltb, leb}
 use lib.ListN.{length, take, drop}
 use Rattle.refusal.specs.Answer.{Answer, result, refused}
 use Rattle.connection.specs.declared.record.State.the-variants.{Interrupted, Failed, Defunct}
@@ -95,6 +95,11 @@ abbrev pub lookedUp : List Request → List Numbered → List Numbered
 lookedUp rs [] = []
 lookedUp rs (x ∷ xs) = record { number = x .number; request = nth (x .number) rs } ∷ lookedUp rs xs
 
+-- each number is above the one before it, and the first above n
+abbrev pub rising : ℕ → List Numbered → Bool
+rising n [] = true
+rising n (x ∷ xs) = ltb n (x .number) && rising (x .number) xs
+
 -- what is handed over, with the numbers handed over with it
 abbrev pub handedBy : Answer Said → List Numbered
 handedBy (refused number place) = []
@@ -168,6 +173,8 @@ pub record Demand3 (calls : List Call) : Type 0 where
   pub kth : summaries (events fresh calls) ≡ numbered 1 (take (length (summaries (events fresh calls))) (requests (events fresh calls)))
   -- each request handed over with number n is the n-th accepted request
   pub handed : handedOver (events fresh calls) ≡ lookedUp (requests (events fresh calls)) (handedOver (events fresh calls))
+  -- and none is handed over twice
+  pub once : rising 0 (handedOver (events fresh calls)) ≡ true
   -- no request whose turn comes in FAILED or INTERRUPTED is handed over
   pub never : any wronglyHanded (events fresh calls) ≡ false
 
