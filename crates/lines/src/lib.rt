@@ -4,7 +4,7 @@ ghost use mathlib.Core.Path.{_≡_};
 ghost use Prim.Native.Nat.{min};
 ghost use lib.ListN.{length, take};
 ghost use Rattle.slices.specs.Parts.{front};
-ghost use Rattle.lines.specs.Lines.{firstLines, hasEnd};
+ghost use Rattle.lines.specs.Lines.{firstLine, firstLines, hasEnd};
 ghost use Rattle.lines.specs.Blocks.{heldOf};
 
 pub const LINE_END: u8 = 0x0A;
@@ -29,6 +29,20 @@ fn least(a: usize, b: usize) -> usize
     b
 }
 
+// How many characters stand before the first line end, or how many there are where there is none.
+fn first_length(bytes: &[u8]) -> usize
+    ensures { λ r. ⌜ r ≡ length (firstLine (now (bytes .entry))) ⌝ }
+{
+    let mut i = 0;
+    while i < bytes.len() {
+        if bytes[i] == LINE_END {
+            return i;
+        }
+        i += 1;
+    }
+    i
+}
+
 // Takes the characters of a block up to its first line end, and that. Those of the line are held behind the `begun` characters of it that
 // are held already, as far as there is room for them: the line stands in front of what was lent.
 pub fn take_line(held: &mut [u8], begun: usize, block: &[u8]) -> Taken
@@ -37,27 +51,20 @@ pub fn take_line(held: &mut [u8], begun: usize, block: &[u8]) -> Taken
     ensures size { λ r. ⌜ r .size ≡ length (heldOf (length (now (held .entry))) (take begun (now (held .entry))) (now (block .entry))) ⌝ }
     ensures filled { λ _. ⌜ now (held .exit) ≡ front (heldOf (length (now (held .entry))) (take begun (now (held .entry))) (now (block .entry))) (now (held .entry)) ⌝ }
 {
-    let room = held.len();
-    let mut size = least(begun, room);
-    let mut i = 0;
-    while i < block.len() {
-        let character = block[i];
-        i += 1;
-        if character == LINE_END {
-            return Taken {
-                taken: i,
-                ended: true,
-                size: size,
-            };
-        }
-        if size < room {
-            held[size] = character;
-            size += 1;
-        }
+    let length = first_length(block);
+    let at = least(begun, held.len());
+    let kept = least(length, held.len() - at);
+    slices::copy(block, 0, kept, held, at);
+    if length < block.len() {
+        return Taken {
+            taken: length + 1,
+            ended: true,
+            size: at + kept,
+        };
     }
     Taken {
-        taken: i,
+        taken: length,
         ended: false,
-        size: size,
+        size: at + kept,
     }
 }

@@ -27,7 +27,7 @@ use Rattle.connection.proofs.Calls.{fits, few}
 use Rattle.connection.proofs.Keeping.{put-own}
 use Rattle.connection.proofs.Waiting.{front-length}
 use Rattle.serving.specs.Serving.{End, idle, Serving, succeeding, turnOf, following, serving, turns, served}
-use Rattle.serving.specs.Idle.{Idle}
+use Rattle.serving.specs.Idle.{Claim}
 
 -- ---- the table
 -- what a take says, and what it leaves: idle changes nothing, what is handed over still waits, and a summary is for the first
@@ -239,7 +239,7 @@ starts (result T.idle) d w = absurd w
 starts (result (T.handed r n)) d w = absurd w
 starts (result (T.answered s n)) d w = absurd w
 
-pub idles : (c : Connection) (r : Request) → Idle c r
+pub idles : Claim
 unfolding served
 idles c r = record {
   nothing-left = λ p q. starts (arriveOf c r .answer) (arriveOf c r .connection) (arrived c r (record { slots = p; numbers = q }));

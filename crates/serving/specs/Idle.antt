@@ -14,3 +14,7 @@ use Rattle.serving.specs.Serving.{idle, served}
 pub record Idle (c : Connection) (r : Request) : Type 0 where
   pub nothing-left : length (c .queue .slots) ≡ 32 → length (c .control .streams .numbers) ≡ 8
       → served c r .end ≡ idle → takeOf (served c r .connection) .answer ≡ result T.idle
+
+-- of any record and any request
+abbrev pub Claim : Type 0
+Claim = (c : Connection) (r : Request) → Idle c r

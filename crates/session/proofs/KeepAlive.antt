@@ -19,7 +19,7 @@ use Rattle.session.specs.declared.phase.Phase.the-variants.{Open}
 use Rattle.session.specs.declared.phase.Session.{Session}
 use Rattle.session.specs.Receiving.{Brought, nothing, refusal, framed, broughtIn}
 use Rattle.session.specs.Session.{replying, answering, inPhase, nextOf}
-use Rattle.session.specs.KeepAlive.{KeepAlive, unmoved, empty}
+use Rattle.session.specs.KeepAlive.{unmoved, empty, Claim}
 
 module _ (s : Session) (v : Version) (begun : s .phase ≡ Open v) where
   -- a line that brings nothing
@@ -45,7 +45,7 @@ empty-frame : (alive : Bool) → alive ≡ true → frameOf alive mostBytes (toB
 unfolding toBytes valueOf frameOf feed bigEndian
 empty-frame alive e = ap (λ (b : Bool). frameOf b mostBytes (toBytes empty)) e
 
-pub keep-alives : (s : Session) (v : Version) → KeepAlive s v
+pub keep-alives : Claim
 keep-alives s v = record {
   no-call = alone s v;
   silent = λ begun line l f. quiet s v begun line (alone s v begun line l f);

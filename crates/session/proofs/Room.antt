@@ -24,7 +24,7 @@ use Rattle.serving.specs.Serving.{End, idle, Serving, turnOf, following, servin
 use Rattle.session.specs.Receiving as Brought
 use Rattle.session.specs.Receiving.{handshakeIn, broughtIn}
 use Rattle.session.specs.Session.{summaryLine, endLines, replying, zeros, greeting, answering, inPhase, nextOf, written, handling}
-use Rattle.session.specs.Room.{enough, Room}
+use Rattle.session.specs.Room.{enough, Claim}
 use Rattle.session.proofs.Writing.{text-append, length-one, length-none, summary-length}
 
 -- ---- no more summaries than turns
@@ -92,5 +92,5 @@ taken s line room h =
     let k : length (written (nextOf s line)) ≤ room = omega (arith, next-short s line) in
     ap (λ (b : Bool). cond b (refused 21 0) (result (nextOf s line))) (le-ltb room (length (written (nextOf s line))) k)
 
-pub room : (s : Session) (line : List ℕ) → Room s line
+pub room : Claim
 room s line = record { most = next-short s line; taken = taken s line }

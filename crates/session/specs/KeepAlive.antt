@@ -35,3 +35,6 @@ pub record KeepAlive (s : Session) (v : Version) : Type 0 where
       → frameOf (keepsAlive (v .minor)) mostBytes (toBytes line) ≡ result (keep-alive (length (toBytes line))) → nextOf s line ≡ unmoved s
   -- `0000` is one where the version has keep-alives
   pub zeros : s .phase ≡ Open v → keepsAlive (v .minor) ≡ true → nextOf s empty ≡ unmoved s
+
+abbrev pub Claim : Type 0
+Claim = (s : Session) (v : Version) → KeepAlive s v

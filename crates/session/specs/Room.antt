@@ -14,3 +14,6 @@ enough = 4400
 pub record Room (s : Session) (line : List ℕ) : Type 0 where
   pub most : length (written (nextOf s line)) ≤ enough
   pub taken : (room : ℕ) → enough ≤ room → handling room s line ≡ result (nextOf s line)
+
+abbrev pub Claim : Type 0
+Claim = (s : Session) (line : List ℕ) → Room s line
