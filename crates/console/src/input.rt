@@ -37,18 +37,12 @@ pub fn fresh() -> Input
     }
 }
 
-fn least(a: usize, b: usize) -> usize
-    ensures { λ r. ⌜ (r ≤ a) × (r ≤ b) ⌝ }
-{
-    if a < b { a } else { b }
-}
-
 // Takes what was read already, up to the end of the line.
 fn take_read(input: Input, block: &[u8], held: &mut [u8]) -> Input
     ensures { λ r. ⌜ r .size ≤ length (now (held .exit)) ⌝ }
 {
-    let filled = least(input.filled, block.len());
-    let from = least(input.from, filled);
+    let filled = slices::least(input.filled, block.len());
+    let from = slices::least(input.from, filled);
     let line = lines::take_line(held, input.size, &block[from..filled]);
     Input {
         found: line.ended,

@@ -1,7 +1,6 @@
 // Lines of a stream that comes block by block: a line is held in fixed memory until its end has come. Document 01, "Bench trial program": a
 // line ends with 0A, which the last may lack.
 ghost use mathlib.Core.Path.{_≡_};
-ghost use Prim.Native.Nat.{min};
 ghost use lib.ListN.{length, take};
 ghost use Rattle.slices.specs.Parts.{front};
 ghost use Rattle.lines.specs.Lines.{firstLine, firstLines, hasEnd};
@@ -18,15 +17,6 @@ pub struct Taken {
     pub taken: usize,
     pub ended: bool,
     pub size: usize,
-}
-
-fn least(a: usize, b: usize) -> usize
-    ensures { λ r. ⌜ r ≡ min a b ⌝ }
-{
-    if a < b {
-        return a;
-    }
-    b
 }
 
 // How many characters stand before the first line end, or how many there are where there is none.
@@ -52,8 +42,8 @@ pub fn take_line(held: &mut [u8], begun: usize, block: &[u8]) -> Taken
     ensures filled { λ _. ⌜ now (held .exit) ≡ front (heldOf (length (now (held .entry))) (take begun (now (held .entry))) (now (block .entry))) (now (held .entry)) ⌝ }
 {
     let length = first_length(block);
-    let at = least(begun, held.len());
-    let kept = least(length, held.len() - at);
+    let at = slices::least(begun, held.len());
+    let kept = slices::least(length, held.len() - at);
     slices::copy(block, 0, kept, held, at);
     if length < block.len() {
         return Taken {

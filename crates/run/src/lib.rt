@@ -2,7 +2,7 @@
 // Document 01, "Bench trial program". Whatever the blocks, what is written for them is what the whole input means: specs/Whole.antt.
 ghost use mathlib.Core.Path.{_≡_};
 ghost use mathlib.Core.Bool.{true};
-ghost use Prim.Native.Nat.{_≤_, min};
+ghost use Prim.Native.Nat.{_≤_};
 ghost use lib.ListN.{length};
 ghost use Rattle.slices.specs.Parts.{front};
 ghost use Rattle.lines.specs.Lines.{firstLines};
@@ -41,15 +41,6 @@ pub struct Fed {
     pub run: Run,
     pub taken: usize,
     pub written: usize,
-}
-
-fn least(a: usize, b: usize) -> usize
-    ensures { λ r. ⌜ r ≡ min a b ⌝ }
-{
-    if a < b {
-        return a;
-    }
-    b
 }
 
 // A session behind a line, whether the run goes on, and how many characters were written.
@@ -149,7 +140,7 @@ pub fn feed(run: Run, held: &mut [u8], block: &[u8], out: &mut [u8]) -> Fed
     let mut current = Run {
         session: session,
         goes_on: run.goes_on,
-        begun: least(run.begun, held.len()),
+        begun: slices::least(run.begun, held.len()),
     };
     let mut taken = 0;
     let mut written = 0;
@@ -184,7 +175,7 @@ pub fn finish(run: Run, held: &mut [u8], out: &mut [u8]) -> Fed
     ensures held { λ _. ⌜ now (held .exit) ≡ leaves (cutIn (now (held .entry)) run (portion (length (now (out .entry))) (lastIn (now (held .entry)) run))) (now (held .entry)) ⌝ }
     ensures filled { λ _. ⌜ now (out .exit) ≡ front (stepIn (now (held .entry)) run (portion (length (now (out .entry))) (lastIn (now (held .entry)) run)) .output) (now (out .entry)) ⌝ }
 {
-    if least(run.begun, held.len()) == 0 {
+    if slices::least(run.begun, held.len()) == 0 {
         return feed(run, held, b"", out);
     }
     feed(run, held, b"\n", out)
