@@ -117,9 +117,9 @@ flies k q keeps places flight some =
 
 -- ---- arrive
 pub arrive-by : (t : Table) (r : Request) {a b d : Bool} → inRange r ≡ a → leb 4294967295 (t .accepted) ≡ b → leb 32 (length (t .waiting)) ≡ d
-    → cond a (cond b (refused 20 0) (cond d (refused 17 0) (result (accept t r)))) (refused 16 0)
-    ≡ cond (inRange r) (cond (leb 4294967295 (t .accepted)) (refused 20 0) (cond (leb 32 (length (t .waiting))) (refused 17 0) (result (accept t r)))) (refused 16 0)
-arrive-by t r p q u = sym (λ i. cond (p i) (cond (q i) (refused 20 0) (cond (u i) (refused 17 0) (result (accept t r)))) (refused 16 0))
+    → cond a (cond b (refused 20 0) (cond d (refused 17 0) (result (accept t r)))) (refused 27 0)
+    ≡ cond (inRange r) (cond (leb 4294967295 (t .accepted)) (refused 20 0) (cond (leb 32 (length (t .waiting))) (refused 17 0) (result (accept t r)))) (refused 27 0)
+arrive-by t r p q u = sym (λ i. cond (p i) (cond (q i) (refused 20 0) (cond (u i) (refused 17 0) (result (accept t r)))) (refused 27 0))
 
 -- ---- take
 pub take-by : (t : Table) {b : Bool} → t .inFlight ≡ b → _≡_ {A = Answer Done} (result (cond b (record { table = t; said = idle }) (takeFirst t (t .waiting)))) (result (cond (t .inFlight) (record { table = t; said = idle }) (takeFirst t (t .waiting))))

@@ -106,7 +106,7 @@ module _ (t : Table) (was : Option Request) (w : Awaits t was) where
       (λ _. by-test (Moves (T.arrive r)) (inRange r)
       (λ _. by-test (Moves (T.arrive r)) (leb 4294967295 (t .accepted)) (λ _. refuses (T.arrive r) 20 0)
       (λ _. by-test (Moves (T.arrive r)) (leb 32 (length (t .waiting))) (λ _. refuses (T.arrive r) 17 0) (λ _. moved-accept r)))
-      (λ _. refuses (T.arrive r) 16 0))
+      (λ _. refuses (T.arrive r) 27 0))
 
   -- ---- take and report
   module _ (r : Request) (ws : List Request) (e : t .waiting ≡ r ∷ ws) where

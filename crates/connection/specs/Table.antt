@@ -111,7 +111,7 @@ arriveT t r =
     (cond (inRange r)
     (cond (leb 4294967295 (t .accepted)) (refused 20 0)
     (cond (leb 32 (length (t .waiting))) (refused 17 0) (result (accept t r))))
-    (refused 16 0))
+    (refused 27 0))
 
 -- ---- take
 -- what becomes of a request whose turn comes: anything that is not named closes

@@ -1,5 +1,5 @@
 // Arrive: a request has come, and goes to the end of the queue. Document 01, "Connection record".
-// The refusals come in this order: 24, 18, 16, 20, 17.
+// The refusals come in this order: 24, 18, 27, 20, 17.
 use super::answers::AfterArrive;
 use super::answers::Arrival;
 use super::changes;
@@ -44,7 +44,7 @@ pub fn step(control: Control, queue: Queue, request: Request) -> AfterArrive
         return answer(control, queue, Arrival::Refused(Refusal::ConnectionDefunct));
     }
     if !requests::is_in_range(request) {
-        return answer(control, queue, Arrival::Refused(Refusal::InvalidField));
+        return answer(control, queue, Arrival::Refused(Refusal::OutOfRange));
     }
     if 4294967295 <= control.accepted {
         return answer(

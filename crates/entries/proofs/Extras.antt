@@ -6,7 +6,8 @@ use Prim.Native.Nat.{ℕ, _<_}
 use lib.ListN.{getD}
 use Rattle.refusal.specs.Answer.{Answer}
 use Rattle.entries.specs.Numbering.{nameOf}
-use Rattle.entries.specs.View.{absent}
+use Rattle.entries.specs.Lookup.{absent}
+use Rattle.entries.specs.View.{seen}
 use Rattle.entries.specs.Walk.{entryAt, entryIn}
 use Rattle.entries.specs.declared.view.Entry.{Entry}
 use Rattle.entries.proofs.Naming.{index-of-name}
@@ -16,7 +17,7 @@ pub entry-is : (s found : List ℕ) (k : ℕ) → k < 12 → entryAt s (getD fou
 entry-is s found k h = ap (λ (j : ℕ). entryAt s (getD found j 0)) (sym (index-of-name k h))
 
 -- a name that is not known yet has no entry
-pub entry-since : (s : List ℕ) (b : Bool) (place : ℕ) (e : Entry) → entryAt s place ≡ e → entryAt s (cond b place 0) ≡ cond b e absent
+pub entry-since : (s : List ℕ) (b : Bool) (place : ℕ) (e : Entry) → entryAt s place ≡ e → entryAt s (cond b place 0) ≡ cond b e (seen absent)
 entry-since s true place e f = f
 entry-since s false place e f = refl
 

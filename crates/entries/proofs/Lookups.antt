@@ -18,7 +18,8 @@ use Rattle.values.proofs.KeySearch.{KeyTells, key-tells}
 use Rattle.values.proofs.Steps.{FirstEntry, first-entry, entries-count}
 use Rattle.values.proofs.Placement.{placement, entries-lie}
 use Rattle.entries.specs.Numbering.{names, nameOf, indexOf}
-use Rattle.entries.specs.View.{span, seen, under}
+use Rattle.entries.specs.Lookup.{held, under}
+use Rattle.entries.specs.View.{span, seen}
 use Rattle.entries.specs.Walk.{stringFound, note, notedFrom, nothing, entryAt, entryIn}
 use Rattle.entries.specs.declared.view.View.{View}
 use Rattle.entries.proofs.Naming.{index-of-name, name-of-index}
@@ -111,7 +112,7 @@ module _ (s : List ℕ) (d : ℕ) (shallow : d ≤ mostOpen) where
       rw (← lie .1 .peeked, content .bytes, content .ends, ← here .skipped) (walk-there es next end (lie .4) (note found key after))
 
   -- the entry at the place of a name's value is what stands under the name
-  pub entry-there : (name : List ℕ) (es : Entries) (at end : ℕ) → EntriesLie s d at es end → entryAt s (placeOf es name 0) ≡ under es name
+  pub entry-there : (name : List ℕ) (es : Entries) (at end : ℕ) → EntriesLie s d at es end → entryAt s (placeOf es name 0) ≡ seen (under es name)
   unfolding EntriesLie placeOf under
   entry-there name no-entries at end lie = refl
   entry-there name (entry place start key after v es) at end lie = by (same key name) (entry-there name es (lie .2) end (lie .4))
@@ -121,16 +122,16 @@ module _ (s : List ℕ) (d : ℕ) (shallow : d ≤ mostOpen) where
           let w = string-within s at (span start (length key)) (ap stringFound (lie .1 .peeked)) in
           omega (arith, w .past, lie .1 .content .ends)
 
-      here : entryAt s after ≡ seen after v
+      here : entryAt s after ≡ seen (held after v)
       here = ap (λ (w : View). record { place = after; view = w }) (rw (ne-eqb after 0 past) (view-there s d shallow after v (lie .2) (lie .3)))
 
-      by : (t : Bool) → entryAt s (placeOf es name 0) ≡ under es name → entryAt s (cond t after (placeOf es name 0)) ≡ cond t (seen after v) (under es name)
+      by : (t : Bool) → entryAt s (placeOf es name 0) ≡ seen (under es name) → entryAt s (cond t after (placeOf es name 0)) ≡ seen (cond t (held after v) (under es name))
       by true later = here
       by false later = later
 
   -- so what is noted is what the entries say
   pub noted-there : (n at : ℕ) (es : Entries) (end : ℕ) → entries s (valueAt s d) [] n at ≡ parsed es end
-      → (k : ℕ) → k < 12 → entryIn s (notedFrom s n at nothing) (nameOf k) ≡ under es (nameOf k)
+      → (k : ℕ) → k < 12 → entryIn s (notedFrom s n at nothing) (nameOf k) ≡ seen (under es (nameOf k))
   noted-there n at es end e k h =
       let lie = entries-lie s d [] n at es end e in
       let walked : notedFrom s n at nothing ≡ notedIn nothing es =

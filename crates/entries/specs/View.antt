@@ -1,10 +1,11 @@
--- Values and entries as far as a request looks at them: document 01, "Requests". Assumes nothing.
+-- The code's view of a value, as far as a request looks at it. What requests mean is said of the values themselves. Assumes nothing.
 use Prim.Native.Nat.{ℕ}
 use mathlib.Core.Bool.{Bool, true, false, cond}
 use mathlib.Core.List.{List, [], _∷_}
 use lib.ListN.{length}
-use Rattle.markers.specs.Value.{Value, null, boolean, integer, float, bytes, string, list, dictionary, structure, Items, no-items, item, Entries, no-entries, entry}
+use Rattle.markers.specs.Value.{Value, null, boolean, integer, float, bytes, string, list, dictionary, structure, Items, no-items, item}
 use Rattle.slices.specs.Equality.{same}
+use Rattle.entries.specs.Lookup.{Held, absent, held}
 use Rattle.entries.specs.declared.view.Span.{Span}
 use Rattle.entries.specs.declared.view.Place.{Place}
 use Rattle.entries.specs.declared.view.Place.the-variants as P
@@ -49,18 +50,7 @@ viewOf (list vs) = As.List (wrongIn vs)
 viewOf (dictionary es) = As.Dictionary
 viewOf (structure tag vs) = As.Other
 
--- the value whose marker is at `place`
-abbrev pub seen : ℕ → Value → Entry
-seen place v = record { place = place; view = viewOf v }
-
-abbrev pub absent : Entry
-absent = record { place = 0; view = As.Absent }
-
--- what stands under a name; the others are passed over
-unfoldable pub under : Entries → List ℕ → Entry
-under no-entries name = absent
-under (entry at start key place v es) name = cond (same key name) (seen place v) (under es name)
-
--- what stands under each name
-abbrev pub Lookup : Type 0
-Lookup = List ℕ → Entry
+-- what stands under a name, as the code has it: at place 0 there is nothing
+abbrev pub seen : Held → Entry
+seen absent = record { place = 0; view = As.Absent }
+seen (held place v) = record { place = place; view = viewOf v }

@@ -14,7 +14,7 @@ use Rattle.values.specs.declared.walk.Peeked.the-variants as Pk
 use Rattle.values.specs.declared.walk.Skipped.{Skipped}
 use Rattle.values.specs.declared.walk.Skipped.the-variants as S
 use Rattle.entries.specs.Numbering.{names, indexOf}
-use Rattle.entries.specs.View.{span, modeNamed, Lookup}
+use Rattle.entries.specs.View.{span, modeNamed}
 use Rattle.entries.specs.declared.view.Span.{Span}
 use Rattle.entries.specs.declared.view.Text.{Text}
 use Rattle.entries.specs.declared.view.Text.the-variants as T
@@ -115,5 +115,5 @@ abbrev pub nothing : List ℕ
 nothing = replicate 13 0
 
 -- what stands under a name, by what was noted
-abbrev pub entryIn : List ℕ → List ℕ → Lookup
+abbrev pub entryIn : List ℕ → List ℕ → List ℕ → Entry
 entryIn s found name = entryAt s (getD found (indexOf name names) 0)

@@ -230,8 +230,8 @@ names-by : (x : CallImage) → Names x
 names-by (C.arrive r) = by (isRequest r) refl
   where
     by : (b : Bool) → isRequest r ≡ b → Names (C.arrive r)
-    by true e = one (T.arrive (requestOf r)) (sym (chosen (isRequest r) (T.arrive (requestOf r) ∷ []) [] e)) (λ t. sym (chosen (isRequest r) (arriveT t (requestOf r)) (unlessDefunct t (refused 16 0)) e))
-    by false e = none 16 (sym (other (isRequest r) (T.arrive (requestOf r) ∷ []) [] e)) (λ t. sym (other (isRequest r) (arriveT t (requestOf r)) (unlessDefunct t (refused 16 0)) e))
+    by true e = one (T.arrive (requestOf r)) (sym (chosen (isRequest r) (T.arrive (requestOf r) ∷ []) [] e)) (λ t. sym (chosen (isRequest r) (arriveT t (requestOf r)) (unlessDefunct t (refused 27 0)) e))
+    by false e = none 27 (sym (other (isRequest r) (T.arrive (requestOf r) ∷ []) [] e)) (λ t. sym (other (isRequest r) (arriveT t (requestOf r)) (unlessDefunct t (refused 27 0)) e))
 names-by C.take = one T.take refl (λ t. refl)
 names-by (C.report o) = by (isOutcome o) refl
   where

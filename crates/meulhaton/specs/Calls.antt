@@ -31,9 +31,10 @@ pub data CallImage : Type 0 where
   report : OutcomeImage → CallImage
   close : CallImage
 
--- "Order for calls: 24, 18, then 16, 20, 17 (arrive) or 19 (report)": a kind that names no request is 16, an outcome that names none 19
+-- "Order for calls: 24, 18, then 16, 20, 17 (arrive) or 19 (report)", with 27 for 16: a kind that names no request is 27, an outcome that names
+-- none 19
 abbrev pub stepOn : Table → CallImage → Answer Done
-stepOn t (arrive r) = cond (isRequest r) (arriveT t (requestOf r)) (unlessDefunct t (refused 16 0))
+stepOn t (arrive r) = cond (isRequest r) (arriveT t (requestOf r)) (unlessDefunct t (refused 27 0))
 stepOn t take = takeT t
 stepOn t (report o) = cond (isOutcome o) (reportT t (outcomeOf (o .number))) (unlessDefunct t (refused 19 0))
 stepOn t close = closeT t

@@ -64,7 +64,7 @@ fn arriving(image: Image, request: RequestImage) -> Answered
     }
     let connection = image::record_of(image);
     if !image::is_request(request) {
-        return refusing(image, connection, Refusal::InvalidField);
+        return refusing(image, connection, Refusal::OutOfRange);
     }
     let request = image::request_of(request);
     let after = connection::arrive::arrive(connection, request);

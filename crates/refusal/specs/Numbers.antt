@@ -1,8 +1,8 @@
--- The refusals by their numbers: document 01, "Refusal numbers", line by line. Assumes nothing.
+-- The refusals by their numbers: document 01, "Refusal numbers", line by line, with 25, 26 and 27 of document 02 for 16. Assumes nothing.
 use Prim.Native.Nat.{ℕ}
 use mathlib.Core.Path.{_≡_}
 use Rattle.refusal.specs.declared.Refusal.{Refusal}
-use Rattle.refusal.specs.declared.Refusal.the-variants.{HandshakeTruncated, WrongPreamble, NoCommonVersion, FrameIncomplete, EmptyMessage, TooLong, ValueTruncated, ReservedMarker, TooDeep, InvalidUtf8, KeyNotString, DuplicateKey, TrailingBytes, UnknownRequest, WrongFieldCount, InvalidField, QueueFull, ConnectionDefunct, UnexpectedReport, RequestLimitReached, NoRoom, InvalidChunking, InvalidLine, InvalidRecord}
+use Rattle.refusal.specs.declared.Refusal.the-variants.{HandshakeTruncated, WrongPreamble, NoCommonVersion, FrameIncomplete, EmptyMessage, TooLong, ValueTruncated, ReservedMarker, TooDeep, InvalidUtf8, KeyNotString, DuplicateKey, TrailingBytes, UnknownRequest, WrongFieldCount, QueueFull, ConnectionDefunct, UnexpectedReport, RequestLimitReached, NoRoom, InvalidChunking, InvalidLine, InvalidRecord, MissingEntry, WrongKind, OutOfRange}
 
 abbrev pub numberOf : Refusal → ℕ
 -- handshake short; preamble wrong; nothing in common
@@ -21,10 +21,9 @@ numberOf InvalidUtf8 = 10
 numberOf KeyNotString = 11
 numberOf DuplicateKey = 12
 numberOf TrailingBytes = 13
--- not a known request structure; field count; field or entry
+-- not a known request structure; field count
 numberOf UnknownRequest = 14
 numberOf WrongFieldCount = 15
-numberOf InvalidField = 16
 -- 32 waiting; DEFUNCT; no request in flight, or more-success for the wrong request; 4,294,967,295 accepted
 numberOf QueueFull = 17
 numberOf ConnectionDefunct = 18
@@ -37,6 +36,10 @@ numberOf InvalidChunking = 22
 numberOf InvalidLine = 23
 -- record breaks a standing rule
 numberOf InvalidRecord = 24
+-- a field or entry, document 02, request 1: required entry absent; kind wrong; number or word out of range
+numberOf MissingEntry = 25
+numberOf WrongKind = 26
+numberOf OutOfRange = 27
 
 -- no two refusals have the same number: the number tells which it is
 abbrev pub Distinct : Type 0

@@ -1,7 +1,8 @@
 // Why a call was refused. Every layer refuses with one of these, and a refused call has changed nothing: it consumed no
-// input, and what was lent to it stands as it stood. Document 01, "Refusal numbers".
+// input, and what was lent to it stands as it stood. Document 01, "Refusal numbers"; 25 to 27 are document 02's.
 ghost use mathlib.Core.Path.{_≡_};
 ghost use Rattle.refusal.specs.Numbers.{numberOf};
+ghost use Rattle.refusal.specs.Answer.{closesAfter};
 
 pub enum Refusal {
     // Handshake short.
@@ -34,8 +35,6 @@ pub enum Refusal {
     UnknownRequest,
     // Field count.
     WrongFieldCount,
-    // Field or entry.
-    InvalidField,
     // 32 waiting.
     QueueFull,
     // The connection is DEFUNCT.
@@ -52,6 +51,12 @@ pub enum Refusal {
     InvalidLine,
     // The record breaks a standing rule.
     InvalidRecord,
+    // A required entry is absent.
+    MissingEntry,
+    // A field or an entry of another kind.
+    WrongKind,
+    // A number or a word out of its range.
+    OutOfRange,
 }
 
 impl Refusal {
@@ -75,7 +80,6 @@ impl Refusal {
             Refusal::TrailingBytes => 13,
             Refusal::UnknownRequest => 14,
             Refusal::WrongFieldCount => 15,
-            Refusal::InvalidField => 16,
             Refusal::QueueFull => 17,
             Refusal::ConnectionDefunct => 18,
             Refusal::UnexpectedReport => 19,
@@ -84,6 +88,23 @@ impl Refusal {
             Refusal::InvalidChunking => 22,
             Refusal::InvalidLine => 23,
             Refusal::InvalidRecord => 24,
+            Refusal::MissingEntry => 25,
+            Refusal::WrongKind => 26,
+            Refusal::OutOfRange => 27,
         }
+    }
+
+    // Whether the caller closes the connection after it.
+    pub fn closes(self) -> bool
+        ensures { λ r. ⌜ r ≡ closesAfter (numberOf self) ⌝ }
+    {
+        let number = self.number();
+        if number < 16 {
+            return 5 <= number;
+        }
+        if number < 25 {
+            return false;
+        }
+        number <= 27
     }
 }

@@ -21,9 +21,12 @@ use Rattle.values.proofs.Placement.{placement}
 use Rattle.values.proofs.Steps as Steps
 use Rattle.values.proofs.Steps.{ValueTells, value-tells, entries-count}
 use Rattle.entries.specs.Numbering.{nameOf}
-use Rattle.entries.specs.View.{span, seen, under, Lookup}
-use Rattle.requests.specs.Checks.{wrong, stringIn, requiredText}
-use Rattle.requests.specs.Requests.{hello, transaction, batch, asks, entriesOf, extra, run, none, one, three}
+use Rattle.entries.specs.Lookup.{under}
+use Rattle.entries.specs.View.{span, seen}
+use Rattle.requests.specs.Kinds.{onDictionary}
+use Rattle.requests.specs.Checks.{complaints, wrongKind, stringAt, dictionaryAt}
+use Rattle.requests.specs.Requests.{transaction, extra, run, none, one, three}
+use Rattle.requests.specs.Private.Views.{asksSeen, transactionSeen, asks}
 use Rattle.entries.specs.Walk.{stringFound, onText, entriesHead, entriesFound, notedFrom, nothing, entryIn}
 use Rattle.requests.specs.Private.Fields.{Fields}
 use Rattle.entries.specs.declared.view.Span.{Span}
@@ -33,10 +36,10 @@ use Rattle.requests.specs.declared.request.Transaction.{Transaction}
 use Rattle.requests.specs.declared.request.Request.{Request}
 use Rattle.requests.specs.declared.request.Request.the-variants as R
 use Rattle.requests.specs.declared.extra.Kind.{Kind}
-use Rattle.requests.specs.declared.extra.Kind.the-variants as K
 use Rattle.entries.specs.declared.Entries.the-variants as E
 use Rattle.entries.proofs.Trees.{textOf, text-there}
 use Rattle.entries.proofs.Lookups.{noted-there}
+use Rattle.requests.proofs.Viewed.{asks-seen, transaction-seen}
 
 clash : _≡_ {A = ℕ} 0 1 → ⊥
 clash e = omega arith
@@ -166,11 +169,11 @@ module _ (s : List ℕ) (d at : ℕ) where
     found-head = ap entriesFound (sym (placement s d at shallow v end r .peeked))
 
     -- none is found: it is no Dictionary
-    pub no-dictionary : {A : Type 0} (f : Entries → Answer A) → E.None ≡ entriesFound (peekAt s at) → wrong at ≡ entriesOf at v f
+    pub no-dictionary : {A : Type 0} (f : Entries → Answer A) → E.None ≡ entriesFound (peekAt s at) → wrongKind complaints at ≡ onDictionary f (wrongKind complaints at) v
     unfolding headOf
     no-dictionary f e = by v (e ∙ found-head)
       where
-        by : (v : Value) → E.None ≡ entriesHead (headOf v end) → wrong at ≡ entriesOf at v f
+        by : (v : Value) → E.None ≡ entriesHead (headOf v end) → wrongKind complaints at ≡ onDictionary f (wrongKind complaints at) v
         by null e = refl
         by (boolean b) e = refl
         by (integer z) e = refl
@@ -185,7 +188,7 @@ module _ (s : List ℕ) (d at : ℕ) where
     pub record Found (p n : ℕ) : Type 0 where
       pub es : Entries
       pub is : v ≡ dictionary es
-      pub lookup : (k : ℕ) → k < 12 → entryIn s (notedFrom s n p nothing) (nameOf k) ≡ under es (nameOf k)
+      pub lookup : (k : ℕ) → k < 12 → entryIn s (notedFrom s n p nothing) (nameOf k) ≡ seen (under es (nameOf k))
 
     pub dictionary-found : (p n : ℕ) → E.From p n ≡ entriesFound (peekAt s at) → Found p n
     unfolding headOf
@@ -206,52 +209,32 @@ module _ (s : List ℕ) (d at : ℕ) where
             let h = dictionary-reads es end (rw g at r) in
             record { es = es; is = g; lookup = rw (a, b) (noted-there s (d - 1) (omega arith) (countEntries es) (firstEntry es end) es end h) }
 
--- ---- two lookups that agree at the known names give the same answer
-abbrev pub Agree : Lookup → Lookup → Type 0
-Agree e e′ = (k : ℕ) → k < 12 → e (nameOf k) ≡ e′ (nameOf k)
-
-module _ (e e′ : Lookup) (a : Agree e e′) where
-  pub transaction-agrees : transaction e ≡ transaction e′
-  unfolding transaction
-  transaction-agrees = rw (a 5 (omega arith), a 6 (omega arith), a 7 (omega arith), a 8 (omega arith), a 9 (omega arith))
-
-  batch-agrees : (at : ℕ) → batch at e ≡ batch at e′
-  unfolding batch
-  batch-agrees at = rw (a 10 (omega arith), a 11 (omega arith))
-
-  pub asks-agrees : (k : Kind) (minor at : ℕ) → asks k minor at e ≡ asks k minor at e′
-  unfolding hello
-  asks-agrees K.Hello minor at = rw (a 0 (omega arith), a 1 (omega arith), a 2 (omega arith), a 3 (omega arith), a 4 (omega arith))
-  asks-agrees K.Begin minor at = rw transaction-agrees
-  asks-agrees K.Discard minor at = rw (batch-agrees at)
-  asks-agrees K.Pull minor at = rw (batch-agrees at)
-
 -- ---- a request whose one field is its extra
 module _ (s : List ℕ) (at n : ℕ) (vs : Items) (fields : Fields s at n vs) (alone : n ≡ 1) (k : Kind) (minor : ℕ) where
   field : One s at vs
   field = one-field s at n vs fields alone
 
-  is-one : extra (asks k minor) at (field .v) ≡ one (extra (asks k minor)) vs
-  is-one = ap (one (extra (asks k minor))) (sym (field .all))
+  is-one : extra complaints (asks complaints k minor) at (field .v) ≡ one (extra complaints (asks complaints k minor)) vs
+  is-one = ap (one (extra complaints (asks complaints k minor))) (sym (field .all))
 
   shallow : 15 ≤ mostOpen
   shallow = omega arith
 
-  pub no-extra : E.None ≡ entriesFound (peekAt s at) → wrong at ≡ one (extra (asks k minor)) vs
-  no-extra e = no-dictionary s 15 at shallow (field .v) (field .end) (field .reads) (λ es. asks k minor at (under es)) e ∙ is-one
+  pub no-extra : E.None ≡ entriesFound (peekAt s at) → wrongKind complaints at ≡ one (extra complaints (asks complaints k minor)) vs
+  no-extra e = no-dictionary s 15 at shallow (field .v) (field .end) (field .reads) (λ es. asks complaints k minor at (under es)) e ∙ is-one
 
   pub extra-there : (p m : ℕ) → E.From p m ≡ entriesFound (peekAt s at) → (found : List ℕ) → found ≡ notedFrom s m p nothing
-      → asks k minor at (entryIn s found) ≡ one (extra (asks k minor)) vs
+      → asksSeen complaints k minor at (entryIn s found) ≡ one (extra complaints (asks complaints k minor)) vs
   extra-there p m e found f =
       let d = dictionary-found s 15 at shallow (field .v) (field .end) (field .reads) p m e in
-      ap (λ (l : List ℕ). asks k minor at (entryIn s l)) f
-      ∙ asks-agrees (entryIn s (notedFrom s m p nothing)) (under (d .es)) (d .lookup) k minor at
-      ∙ ap (extra (asks k minor) at) (sym (d .is)) ∙ is-one
+      ap (λ (l : List ℕ). asksSeen complaints k minor at (entryIn s l)) f
+      ∙ asks-seen complaints (entryIn s (notedFrom s m p nothing)) (under (d .es)) (d .lookup) k minor at
+      ∙ ap (extra complaints (asks complaints k minor) at) (sym (d .is)) ∙ is-one
 
 -- ---- RUN
 -- a query that is a String, or any other
 query-is : (at : ℕ) (v : Value) (f : Span → Answer Request)
-    → onText (textOf v) (wrong at) f ≡ andThen (stringIn (seen at v)) (λ t. andThen (requiredText at t) f)
+    → onText (textOf v) (wrongKind complaints at) f ≡ andThen (stringAt complaints at v) f
 query-is at null f = refl
 query-is at (boolean b) f = refl
 query-is at (integer z) f = refl
@@ -280,50 +263,53 @@ module _ (s : List ℕ) (at n : ℕ) (vs : Items) (fields : Fields s at n vs) (a
   three-there : Three s at vs
   three-there = three-fields s at n vs fields all
 
-  is-three : run at (three-there .v) (three-there .p) (three-there .w) (three-there .q) (three-there .x) ≡ three run vs
-  is-three = ap (three run) (sym (three-there .all))
+  is-three : run complaints at (three-there .v) (three-there .p) (three-there .w) (three-there .q) (three-there .x) ≡ three (run complaints) vs
+  is-three = ap (three (run complaints)) (sym (three-there .all))
 
   deep : 15 ≤ mostOpen
   deep = omega arith
 
-  -- the query, and what follows it
-  after-query : (query : Span) → Answer Request
-  after-query query =
-      entriesOf (three-there .p) (three-there .w) (λ _. entriesOf (three-there .q) (three-there .x) (λ es. andThen (transaction (under es)) (λ t. result (R.Run query (three-there .p) t))))
+  -- the query and the parameters, and what follows them
+  with-extra : Span → ℕ → Answer Request
+  with-extra query p = extra complaints (λ at e. andThen (transaction complaints e) (λ t. result (R.Run query p t))) (three-there .q) (three-there .x)
 
-  by-query : onText (stringFound (peekAt s at)) (wrong at) after-query ≡ three run vs
-  unfolding run after-query
+  after-query : Span → Answer Request
+  after-query query = andThen (dictionaryAt complaints (three-there .p) (three-there .w)) (with-extra query)
+
+  by-query : onText (stringFound (peekAt s at)) (wrongKind complaints at) after-query ≡ three (run complaints) vs
+  unfolding run after-query with-extra
   by-query =
-      ap (λ (t : Text). onText t (wrong at) after-query) (text-there s 15 deep at (three-there .v) (three-there .p) (three-there .first))
+      ap (λ (t : Text). onText t (wrongKind complaints at) after-query) (text-there s 15 deep at (three-there .v) (three-there .p) (three-there .first))
       ∙ query-is at (three-there .v) after-query ∙ is-three
 
-  pub no-query : T.Absent ≡ stringFound (peekAt s at) → wrong at ≡ three run vs
-  no-query e = ap (λ (t : Text). onText t (wrong at) after-query) e ∙ by-query
+  pub no-query : T.Absent ≡ stringFound (peekAt s at) → wrongKind complaints at ≡ three (run complaints) vs
+  no-query e = ap (λ (t : Text). onText t (wrongKind complaints at) after-query) e ∙ by-query
 
   module _ (query : Span) (given : T.At query ≡ stringFound (peekAt s at)) where
-    with-query : after-query query ≡ three run vs
-    with-query = ap (λ (t : Text). onText t (wrong at) after-query) given ∙ by-query
+    with-query : after-query query ≡ three (run complaints) vs
+    with-query = ap (λ (t : Text). onText t (wrongKind complaints at) after-query) given ∙ by-query
 
     -- the parameters begin where the query ends
     ends : three-there .p ≡ query .start + query .size
     ends = query-ends s 15 at (three-there .v) (three-there .p) query (placement s 15 at deep (three-there .v) (three-there .p) (three-there .first) .parts)
         (given ∙ text-there s 15 deep at (three-there .v) (three-there .p) (three-there .first))
 
-    pub no-parameters : E.None ≡ entriesFound (peekAt s (query .start + query .size)) → wrong (query .start + query .size) ≡ three run vs
+    pub no-parameters : E.None ≡ entriesFound (peekAt s (query .start + query .size)) → wrongKind complaints (query .start + query .size) ≡ three (run complaints) vs
     unfolding after-query
     no-parameters e =
-        rw (← ends) (no-dictionary s 15 (three-there .p) deep (three-there .w) (three-there .q) (three-there .second) _ (rw (← ends) at e) ∙ with-query)
+        let none = no-dictionary s 15 (three-there .p) deep (three-there .w) (three-there .q) (three-there .second) (λ es. result (three-there .p)) (rw (← ends) at e) in
+        rw (← ends) (ap (λ (a : Answer ℕ). andThen a (with-extra query)) none ∙ with-query)
 
     module _ (p m : ℕ) (parameters : E.From p m ≡ entriesFound (peekAt s (query .start + query .size))) where
       -- the extra, and what it makes of the request
       after-parameters : (x : Value) → Answer Request
-      after-parameters x = entriesOf (three-there .q) x (λ es. andThen (transaction (under es)) (λ t. result (R.Run query (query .start + query .size) t)))
+      after-parameters x = extra complaints (λ at e. andThen (transaction complaints e) (λ t. result (R.Run query (query .start + query .size) t))) (three-there .q) x
 
-      with-parameters : after-parameters (three-there .x) ≡ three run vs
-      unfolding after-query after-parameters
+      with-parameters : after-parameters (three-there .x) ≡ three (run complaints) vs
+      unfolding after-query with-extra after-parameters
       with-parameters =
           let d = dictionary-found s 15 (three-there .p) deep (three-there .w) (three-there .q) (three-there .second) p m (rw (← ends) at parameters) in
-          let w : after-query query ≡ three run vs = with-query in
+          let w : after-query query ≡ three (run complaints) vs = with-query in
           rw (d .is, ends) at w
 
       skipped : S.To (three-there .q) ≡ skipAt s (query .start + query .size)
@@ -336,16 +322,16 @@ module _ (s : List ℕ) (at n : ℕ) (vs : Items) (fields : Fields s at n vs) (a
         at-extra : three-there .q ≡ q
         at-extra = let f : S.To (three-there .q) ≡ S.To q = skipped ∙ sym e in cc f
 
-        pub no-run-extra : E.None ≡ entriesFound (peekAt s q) → wrong q ≡ three run vs
+        pub no-run-extra : E.None ≡ entriesFound (peekAt s q) → wrongKind complaints q ≡ three (run complaints) vs
         unfolding after-parameters
         no-run-extra f =
             rw (← at-extra) (no-dictionary s 15 (three-there .q) deep (three-there .x) (three-there .end) (three-there .third) _ (rw (← at-extra) at f) ∙ with-parameters)
 
         pub run-there : (f k : ℕ) → E.From f k ≡ entriesFound (peekAt s q) → (found : List ℕ) → found ≡ notedFrom s k f nothing
-            → andThen (transaction (entryIn s found)) (λ t. result (R.Run query (query .start + query .size) t)) ≡ three run vs
+            → andThen (transactionSeen complaints (entryIn s found)) (λ t. result (R.Run query (query .start + query .size) t)) ≡ three (run complaints) vs
         unfolding after-parameters
         run-there f k g found h =
             let d = dictionary-found s 15 (three-there .q) deep (three-there .x) (three-there .end) (three-there .third) f k (rw (← at-extra) at g) in
-            let same = ap (λ (l : List ℕ). transaction (entryIn s l)) h ∙ transaction-agrees (entryIn s (notedFrom s k f nothing)) (under (d .es)) (d .lookup) in
+            let same = ap (λ (l : List ℕ). transactionSeen complaints (entryIn s l)) h ∙ transaction-seen complaints (entryIn s (notedFrom s k f nothing)) (under (d .es)) (d .lookup) in
             ap (λ (t : Answer Transaction). andThen t (λ t. result (R.Run query (query .start + query .size) t))) same
             ∙ ap after-parameters (sym (d .is)) ∙ with-parameters

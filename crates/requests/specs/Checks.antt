@@ -1,124 +1,74 @@
--- What an entry may hold: document 01, "Requests". "A known name with Null counts as absent"; what is wrong is 16 at its marker.
--- Assumes nothing.
+-- What a field and an entry may hold, and the complaints: document 01, "Requests"; document 02, request 1. Assumes nothing.
 use Prim.Native.Nat.{ℕ}
 use mathlib.Core.Bool.{Bool, true, false, cond}
+use mathlib.Core.List.{[], _∷_}
 use lib.IntN.{ℤ, pos, negsuc}
-use Rattle.refusal.specs.Answer.{Answer, result, refused}
-use Rattle.refusal.specs.Numbers.{numberOf}
+use lib.ListN.{length}
+use Rattle.refusal.specs.Answer.{Answer, result, refused, andThen}
+use Rattle.slices.specs.Equality.{same}
+use Rattle.markers.specs.Value.{Value, Items, no-items, item}
+use Rattle.entries.specs.Lookup.{Held, absent, held}
 use Rattle.entries.specs.declared.view.Span.{Span}
-use Rattle.requests.specs.declared.request.Fault.{Fault}
-use Rattle.entries.specs.declared.view.Text.{Text}
-use Rattle.entries.specs.declared.view.Text.the-variants as T
-use Rattle.entries.specs.declared.view.Place.{Place}
-use Rattle.entries.specs.declared.view.Place.the-variants as P
-use Rattle.requests.specs.declared.request.Number.{Number}
-use Rattle.requests.specs.declared.request.Number.the-variants as N
 use Rattle.entries.specs.declared.view.Mode.{Mode}
 use Rattle.entries.specs.declared.view.Mode.the-variants as M
-use Rattle.entries.specs.declared.view.View.{View}
-use Rattle.entries.specs.declared.view.View.the-variants as As
-use Rattle.entries.specs.declared.view.Entry.{Entry}
-use Rattle.requests.specs.declared.checks.Range.{Range}
-use Rattle.requests.specs.declared.checks.Range.the-variants.{Timeout, Records, Stream}
-use Rattle.bolt.specs.Ranges.{minusOneOr}
+use Rattle.requests.specs.Kinds.{onNull, onInteger, onString, onList, onDictionary}
 
-abbrev pub wrong : {A : Type 0} → ℕ → Answer A
-wrong place = refused 16 place
+-- the number of each complaint: a required entry is absent; a field or an entry is of another kind; a number or word is out of its range
+pub record Complaints : Type 0 where
+  pub missing : ℕ
+  pub kind : ℕ
+  pub range : ℕ
 
--- a String
-abbrev pub stringAt : ℕ → View → Answer Text
-stringAt place As.Absent = result T.Absent
-stringAt place (As.String s mode) = result (T.At s)
-stringAt place (As.Integer z) = wrong place
-stringAt place (As.List item) = wrong place
-stringAt place As.Dictionary = wrong place
-stringAt place As.Other = wrong place
-
-abbrev pub stringIn : Entry → Answer Text
-stringIn e = stringAt (e .place) (e .view)
-
--- a Dictionary: its marker
-abbrev pub dictionaryAt : ℕ → View → Answer Place
-dictionaryAt place As.Absent = result P.Absent
-dictionaryAt place (As.String s mode) = wrong place
-dictionaryAt place (As.Integer z) = wrong place
-dictionaryAt place (As.List item) = wrong place
-dictionaryAt place As.Dictionary = result (P.At place)
-dictionaryAt place As.Other = wrong place
-
-abbrev pub dictionaryIn : Entry → Answer Place
-dictionaryIn e = dictionaryAt (e .place) (e .view)
-
--- a List of Strings: its marker
-abbrev pub unlessItem : ℕ → Place → Answer Place
-unlessItem place P.Absent = result (P.At place)
-unlessItem place (P.At item) = wrong item
-
-abbrev pub listOfStringsAt : ℕ → View → Answer Place
-listOfStringsAt place As.Absent = result P.Absent
-listOfStringsAt place (As.String s mode) = wrong place
-listOfStringsAt place (As.Integer z) = wrong place
-listOfStringsAt place (As.List item) = unlessItem place item
-listOfStringsAt place As.Dictionary = wrong place
-listOfStringsAt place As.Other = wrong place
-
-abbrev pub listOfStringsIn : Entry → Answer Place
-listOfStringsIn e = listOfStringsAt (e .place) (e .view)
-
--- "r" or "w"
-abbrev pub unlessNone : ℕ → Mode → Answer Mode
-unlessNone place M.Absent = wrong place
-unlessNone place M.Read = result M.Read
-unlessNone place M.Write = result M.Write
-
-abbrev pub modeAt : ℕ → View → Answer Mode
-modeAt place As.Absent = result M.Absent
-modeAt place (As.String s mode) = unlessNone place mode
-modeAt place (As.Integer z) = wrong place
-modeAt place (As.List item) = wrong place
-modeAt place As.Dictionary = wrong place
-modeAt place As.Other = wrong place
-
-abbrev pub modeIn : Entry → Answer Mode
-modeIn e = modeAt (e .place) (e .view)
-
--- an Integer in a range
-abbrev pub integerAt : (ℤ → Bool) → ℕ → View → Answer Number
-integerAt range place As.Absent = result N.Absent
-integerAt range place (As.String s mode) = wrong place
-integerAt range place (As.Integer z) = cond (range z) (result (N.Is z)) (wrong place)
-integerAt range place (As.List item) = wrong place
-integerAt range place As.Dictionary = wrong place
-integerAt range place As.Other = wrong place
-
-abbrev pub integerIn : (ℤ → Bool) → Entry → Answer Number
-integerIn range e = integerAt range (e .place) (e .view)
+-- "16 becomes 25, 26 and 27"
+abbrev pub complaints : Complaints
+complaints = record { missing = 25; kind = 26; range = 27 }
 
 -- "0 or more"
 abbrev pub nonNegative : ℤ → Bool
 nonNegative (pos m) = true
 nonNegative (negsuc m) = false
 
--- the range of tx_timeout, of n and of qid
-abbrev pub inRange : Range → ℤ → Bool
-inRange Timeout z = nonNegative z
-inRange Records z = minusOneOr 1 z
-inRange Stream z = minusOneOr 0 z
+-- ---- a value and its marker's offset, which is the place where it is not what it has to be; kind comes before range
+module _ (no : Complaints) where
+  abbrev pub wrongKind : {A : Type 0} → ℕ → Answer A
+  wrongKind at = refused (no .kind) at
 
--- ---- what is required: where it is absent, the place is the Dictionary's marker
-abbrev pub requiredText : ℕ → Text → Answer Span
-requiredText at T.Absent = wrong at
-requiredText at (T.At s) = result s
+  abbrev pub outOfRange : {A : Type 0} → ℕ → Answer A
+  outOfRange at = refused (no .range) at
 
-abbrev pub requiredNumber : ℕ → Number → Answer ℤ
-requiredNumber at N.Absent = wrong at
-requiredNumber at (N.Is z) = result z
+  -- a String: where its content lies
+  abbrev pub stringAt : ℕ → Value → Answer Span
+  stringAt at = onString (λ start content. result (record { start = start; size = length content })) (wrongKind at)
 
--- -1 where it is absent
-abbrev pub orMinusOne : Number → ℤ
-orMinusOne N.Absent = negsuc 0
-orMinusOne (N.Is z) = z
+  -- an Integer in a range
+  abbrev pub integerAt : (ℤ → Bool) → ℕ → Value → Answer ℤ
+  integerAt range at = onInteger (λ z. cond (range z) (result z) (outOfRange at)) (wrongKind at)
 
--- ---- the code's answers in the paper's terms
-abbrev pub refusedBy : {A : Type 0} → Fault → Answer A
-refusedBy f = refused (numberOf (f .refusal)) (f .place)
+  -- "r" or "w"
+  abbrev pub modeAt : ℕ → Value → Answer Mode
+  modeAt at =
+      onString (λ start content. cond (same content (0x72 ∷ [])) (result M.Read) (cond (same content (0x77 ∷ [])) (result M.Write) (outOfRange at)))
+      (wrongKind at)
+
+  -- a Dictionary: its marker
+  abbrev pub dictionaryAt : ℕ → Value → Answer ℕ
+  dictionaryAt at = onDictionary (λ es. result at) (wrongKind at)
+
+  -- a List of Strings: its marker; "in a List, the first wrong item's"
+  unfoldable pub stringsIn : ℕ → Items → Answer ℕ
+  stringsIn at no-items = result at
+  stringsIn at (item place v vs) = onString (λ start content. stringsIn at vs) (wrongKind place) v
+
+  abbrev pub listOfStringsAt : ℕ → Value → Answer ℕ
+  listOfStringsAt at = onList (stringsIn at) (wrongKind at)
+
+  -- ---- entries: "a known name with Null counts as absent"
+  -- one that is required: where it is absent, the place is the Dictionary's marker
+  abbrev pub required : {A : Type 0} → (ℕ → Value → Answer A) → ℕ → Held → Answer A
+  required check at absent = refused (no .missing) at
+  required check at (held place v) = onNull (refused (no .missing) at) (check place v) v
+
+-- one that may be absent
+abbrev pub optional : {A B : Type 0} → (ℕ → Value → Answer A) → B → (A → B) → Held → Answer B
+optional check none some absent = result none
+optional check none some (held place v) = onNull (result none) (andThen (check place v) (λ a. result (some a))) v

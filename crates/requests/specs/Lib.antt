@@ -1,5 +1,8 @@
+pub mod Kinds
 pub mod Checks
 pub mod Requests
 pub mod Places
+pub mod Before
+pub mod Renumbering
 pub mod Cases
 pub mod Private

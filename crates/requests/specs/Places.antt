@@ -1,4 +1,4 @@
--- The rule of places of the request reader: document 01, "Values": "Refusals other than 7 to 16 give place 0". Assumes nothing.
+-- The rule of places of the request reader: document 01, "Values": "Refusals other than 7 to 16 give place 0", with 25 to 27 for 16. Assumes nothing.
 use Prim.Native.Nat.{ℕ}
 use mathlib.Core.List.{List}
 use Rattle.refusal.specs.Answer.{Placed}

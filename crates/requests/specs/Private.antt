@@ -1,2 +1,3 @@
 pub mod Checks
 pub mod Fields
+pub mod Views

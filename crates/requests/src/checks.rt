@@ -1,7 +1,7 @@
-// What an entry may hold: document 01, "Requests". A wrong one is refused at its marker.
+// What an entry may hold: document 01, "Requests". One of another kind is refused with 26 and one out of its range with 27, at its marker.
 ghost use mathlib.Core.Path.{_≡_};
-ghost use Rattle.refusal.specs.Answer.{refused};
-ghost use Rattle.requests.specs.Checks.{inRange, stringIn, dictionaryIn, integerIn, modeIn, listOfStringsIn};
+ghost use Rattle.requests.specs.Checks.{complaints};
+ghost use Rattle.requests.specs.Private.Views.{inRange, stringSeen, dictionarySeen, integerSeen, modeSeen, listOfStringsSeen};
 ghost use Rattle.requests.specs.Private.Checks.{toldText, toldPlace, toldNumber, toldMode, faultOf};
 use crate::request::Fault;
 use crate::request::Number;
@@ -43,68 +43,68 @@ pub enum Range {
     Stream,
 }
 
-// A wrong field or entry.
-pub fn invalid(place: usize) -> Fault
-    ensures { λ r. ⌜ r ≡ faultOf place ⌝ }
+// What is wrong with a field or an entry, and where.
+pub fn complaint(refusal: Refusal, place: usize) -> Fault
+    ensures { λ r. ⌜ r ≡ faultOf refusal place ⌝ }
 {
     Fault {
-        refusal: Refusal::InvalidField,
+        refusal: refusal,
         place: place,
     }
 }
 
 // A String.
 pub fn string_in(entry: Entry) -> CheckedText
-    ensures { λ r. ⌜ toldText r ≡ stringIn entry ⌝ }
+    ensures { λ r. ⌜ toldText r ≡ stringSeen complaints entry ⌝ }
 {
     let view = entry.view;
     match view {
         View::Absent => CheckedText::Right(Text::Absent),
         View::String { span, mode: _ } => CheckedText::Right(Text::At(span)),
-        _ => CheckedText::Wrong(invalid(entry.place)),
+        _ => CheckedText::Wrong(complaint(Refusal::WrongKind, entry.place)),
     }
 }
 
 // A Dictionary: its marker.
 pub fn dictionary_in(entry: Entry) -> CheckedPlace
-    ensures { λ r. ⌜ toldPlace r ≡ dictionaryIn entry ⌝ }
+    ensures { λ r. ⌜ toldPlace r ≡ dictionarySeen complaints entry ⌝ }
 {
     let view = entry.view;
     match view {
         View::Absent => CheckedPlace::Right(Place::Absent),
         View::Dictionary => CheckedPlace::Right(Place::At(entry.place)),
-        _ => CheckedPlace::Wrong(invalid(entry.place)),
+        _ => CheckedPlace::Wrong(complaint(Refusal::WrongKind, entry.place)),
     }
 }
 
 // A List of Strings: its marker.
 pub fn list_of_strings_in(entry: Entry) -> CheckedPlace
-    ensures { λ r. ⌜ toldPlace r ≡ listOfStringsIn entry ⌝ }
+    ensures { λ r. ⌜ toldPlace r ≡ listOfStringsSeen complaints entry ⌝ }
 {
     let view = entry.view;
     match view {
         View::Absent => CheckedPlace::Right(Place::Absent),
         View::List { wrong } => match wrong {
             Place::Absent => CheckedPlace::Right(Place::At(entry.place)),
-            Place::At(item) => CheckedPlace::Wrong(invalid(item)),
+            Place::At(item) => CheckedPlace::Wrong(complaint(Refusal::WrongKind, item)),
         },
-        _ => CheckedPlace::Wrong(invalid(entry.place)),
+        _ => CheckedPlace::Wrong(complaint(Refusal::WrongKind, entry.place)),
     }
 }
 
 // "r" or "w".
 pub fn mode_in(entry: Entry) -> CheckedMode
-    ensures { λ r. ⌜ toldMode r ≡ modeIn entry ⌝ }
+    ensures { λ r. ⌜ toldMode r ≡ modeSeen complaints entry ⌝ }
 {
     let view = entry.view;
     match view {
         View::Absent => CheckedMode::Right(Mode::Absent),
         View::String { span: _, mode } => match mode {
-            Mode::Absent => CheckedMode::Wrong(invalid(entry.place)),
+            Mode::Absent => CheckedMode::Wrong(complaint(Refusal::OutOfRange, entry.place)),
             Mode::Read => CheckedMode::Right(mode),
             Mode::Write => CheckedMode::Right(mode),
         },
-        _ => CheckedMode::Wrong(invalid(entry.place)),
+        _ => CheckedMode::Wrong(complaint(Refusal::WrongKind, entry.place)),
     }
 }
 
@@ -121,7 +121,7 @@ fn is_in_range(range: Range, number: i64) -> bool
 
 // An Integer in a range.
 pub fn integer_in(range: Range, entry: Entry) -> CheckedNumber
-    ensures { λ r. ⌜ toldNumber r ≡ integerIn (inRange range) entry ⌝ }
+    ensures { λ r. ⌜ toldNumber r ≡ integerSeen complaints (inRange range) entry ⌝ }
 {
     let view = entry.view;
     match view {
@@ -130,8 +130,8 @@ pub fn integer_in(range: Range, entry: Entry) -> CheckedNumber
             if is_in_range(range, number) {
                 return CheckedNumber::Right(Number::Is(number));
             }
-            CheckedNumber::Wrong(invalid(entry.place))
+            CheckedNumber::Wrong(complaint(Refusal::OutOfRange, entry.place))
         }
-        _ => CheckedNumber::Wrong(invalid(entry.place)),
+        _ => CheckedNumber::Wrong(complaint(Refusal::WrongKind, entry.place)),
     }
 }

@@ -3,8 +3,9 @@
 ghost use mathlib.Core.Path.{_≡_};
 ghost use mathlib.Core.Bool.{cond};
 ghost use lib.Dec.{leb};
-ghost use Rattle.requests.specs.Checks.{orMinusOne};
-ghost use Rattle.requests.specs.Requests.{hello as helloIn, transaction as transactionIn, batch as batchIn, asks, told};
+ghost use Rattle.requests.specs.Checks.{complaints};
+ghost use Rattle.requests.specs.Requests.{told};
+ghost use Rattle.requests.specs.Private.Views.{orMinusOne, helloSeen, transactionSeen, batchSeen, asksSeen};
 ghost use Rattle.requests.specs.Private.Checks.{toldTransaction, toldBatch};
 ghost use Rattle.entries.specs.Walk.{entryIn};
 use crate::checks;
@@ -23,6 +24,7 @@ use entries::names;
 use entries::view;
 use entries::view::Text;
 use handshake::version::Version;
+use refusal::Refusal;
 
 pub enum CheckedTransaction {
     Right(Transaction),
@@ -46,7 +48,7 @@ fn since(first: Version, version: Version, place: usize) -> usize
 
 // HELLO; `at` is the marker of its extra.
 pub fn hello(message: &[u8], version: Version, at: usize, found: [usize; 13]) -> Reading
-    ensures { λ r. ⌜ told r ≡ helloIn (version .minor) at (entryIn (now (message .entry)) found) ⌝ }
+    ensures { λ r. ⌜ told r ≡ helloSeen complaints (version .minor) at (entryIn (now (message .entry)) found) ⌝ }
 {
     let given = match checks::string_in(view::entry_at(message, found[names::USER_AGENT])) {
         CheckedText::Right(text) => text,
@@ -54,7 +56,7 @@ pub fn hello(message: &[u8], version: Version, at: usize, found: [usize; 13]) ->
     };
     let user_agent = match given {
         Text::At(span) => span,
-        Text::Absent => return Reading::Refused(checks::invalid(at)),
+        Text::Absent => return Reading::Refused(checks::complaint(Refusal::MissingEntry, at)),
     };
     let scheme = match checks::string_in(view::entry_at(message, found[names::SCHEME])) {
         CheckedText::Right(text) => text,
@@ -84,7 +86,7 @@ pub fn hello(message: &[u8], version: Version, at: usize, found: [usize; 13]) ->
 
 // RUN and BEGIN.
 pub fn transaction(message: &[u8], found: [usize; 13]) -> CheckedTransaction
-    ensures { λ r. ⌜ toldTransaction r ≡ transactionIn (entryIn (now (message .entry)) found) ⌝ }
+    ensures { λ r. ⌜ toldTransaction r ≡ transactionSeen complaints (entryIn (now (message .entry)) found) ⌝ }
 {
     let bookmarks = match checks::list_of_strings_in(view::entry_at(
         message,
@@ -135,7 +137,7 @@ fn or_minus_one(number: Number) -> i64
 
 // DISCARD and PULL; `at` is the marker of their extra.
 pub fn batch(message: &[u8], at: usize, found: [usize; 13]) -> CheckedBatch
-    ensures { λ r. ⌜ toldBatch r ≡ batchIn at (entryIn (now (message .entry)) found) ⌝ }
+    ensures { λ r. ⌜ toldBatch r ≡ batchSeen complaints at (entryIn (now (message .entry)) found) ⌝ }
 {
     let given = match checks::integer_in(Range::Records, view::entry_at(message, found[names::N])) {
         CheckedNumber::Right(number) => number,
@@ -143,7 +145,7 @@ pub fn batch(message: &[u8], at: usize, found: [usize; 13]) -> CheckedBatch
     };
     let n = match given {
         Number::Is(value) => value,
-        Number::Absent => return CheckedBatch::Wrong(checks::invalid(at)),
+        Number::Absent => return CheckedBatch::Wrong(checks::complaint(Refusal::MissingEntry, at)),
     };
     let stream = match checks::integer_in(
         Range::Stream,
@@ -166,7 +168,7 @@ pub enum Kind {
 
 // What the extra at `at` asks for, by the request that it is of.
 pub fn asked(message: &[u8], version: Version, kind: Kind, at: usize, found: [usize; 13]) -> Reading
-    ensures { λ r. ⌜ told r ≡ asks kind (version .minor) at (entryIn (now (message .entry)) found) ⌝ }
+    ensures { λ r. ⌜ told r ≡ asksSeen complaints kind (version .minor) at (entryIn (now (message .entry)) found) ⌝ }
 {
     match kind {
         Kind::Hello => hello(message, version, at, found),

@@ -5,8 +5,10 @@ ghost use mathlib.Core.Bool.{cond};
 ghost use lib.Dec.{eqb};
 ghost use Rattle.refusal.specs.Answer.{result, refused};
 ghost use Rattle.values.specs.Decode.{decode};
-ghost use Rattle.requests.specs.Requests.{asks, extra, run as runIn, one, three, tagged, requestOf, told};
+ghost use Rattle.requests.specs.Checks.{complaints};
+ghost use Rattle.requests.specs.Requests.{extra, run as runIn, one, three, tagged, requestOf, told};
 ghost use Rattle.requests.specs.Private.Fields.{Answers};
+ghost use Rattle.requests.specs.Private.Views.{asks};
 use crate::checks;
 use crate::extra;
 use crate::extra::CheckedTransaction;
@@ -45,13 +47,13 @@ fn bare(request: Request, fields: usize) -> Reading
 
 // A request whose one field is its extra, at `at`.
 fn extra_alone(message: &[u8], version: Version, kind: Kind, at: usize, fields: usize) -> Reading
-    ensures { λ r. ⌜ Answers (now (message .entry)) at fields (one (extra (asks kind (version .minor)))) r ⌝ }
+    ensures { λ r. ⌜ Answers (now (message .entry)) at fields (one (extra complaints (asks complaints kind (version .minor)))) r ⌝ }
 {
     if fields != 1 {
         return refused(Refusal::WrongFieldCount);
     }
     let Entries::From { first, count } = entries::entries_at(message, at) else {
-        return Reading::Refused(checks::invalid(at));
+        return Reading::Refused(checks::complaint(Refusal::WrongKind, at));
     };
     extra::asked(
         message,
@@ -64,23 +66,23 @@ fn extra_alone(message: &[u8], version: Version, kind: Kind, at: usize, fields: 
 
 // RUN: the query, the parameters, and the extra, the query at `at`.
 fn run(message: &[u8], at: usize, fields: usize) -> Reading
-    ensures { λ r. ⌜ Answers (now (message .entry)) at fields (three runIn) r ⌝ }
+    ensures { λ r. ⌜ Answers (now (message .entry)) at fields (three (runIn complaints)) r ⌝ }
 {
     if fields != 3 {
         return refused(Refusal::WrongFieldCount);
     }
     let Text::At(query) = view::string_at(message, at) else {
-        return Reading::Refused(checks::invalid(at));
+        return Reading::Refused(checks::complaint(Refusal::WrongKind, at));
     };
     let parameters = query.start + query.size;
     let Entries::From { first: _, count: _ } = entries::entries_at(message, parameters) else {
-        return Reading::Refused(checks::invalid(parameters));
+        return Reading::Refused(checks::complaint(Refusal::WrongKind, parameters));
     };
     let Skipped::To(extra) = walk::skip(message, parameters) else {
-        return Reading::Refused(checks::invalid(parameters));
+        return Reading::Refused(checks::complaint(Refusal::WrongKind, parameters));
     };
     let Entries::From { first, count } = entries::entries_at(message, extra) else {
-        return Reading::Refused(checks::invalid(extra));
+        return Reading::Refused(checks::complaint(Refusal::WrongKind, extra));
     };
     match extra::transaction(message, entries::find(message, first, count)) {
         CheckedTransaction::Right(given) => Reading::Request(Request::Run {
@@ -94,7 +96,7 @@ fn run(message: &[u8], at: usize, fields: usize) -> Reading
 
 // The request of this tag, whose fields lie from `at` on.
 fn by_tag(message: &[u8], version: Version, tag: u8, at: usize, fields: usize) -> Reading
-    ensures { λ r. ⌜ Answers (now (message .entry)) at fields (tagged (version .minor) tag) r ⌝ }
+    ensures { λ r. ⌜ Answers (now (message .entry)) at fields (tagged complaints (version .minor) tag) r ⌝ }
 {
     match tag {
         0x01 => extra_alone(message, version, Kind::Hello, at, fields),
@@ -111,7 +113,8 @@ fn by_tag(message: &[u8], version: Version, tag: u8, at: usize, fields: usize) -
 }
 
 // Reads a message of this version as a request. Refuses as `values` refuses the value, then with 14 where it is no known request
-// structure, with 15 where it has another number of fields, and with 16 at the first field or entry that is wrong.
+// structure, with 15 where it has another number of fields, and at the first field or entry that is wrong with 25 where a required entry
+// is absent, 26 where it is of another kind and 27 where a number or word is out of its range.
 pub fn read_request(message: &[u8], version: Version) -> Reading
     ensures { λ r. ⌜ told r ≡ requestOf (version .minor) (decode (now (message .entry))) ⌝ }
 {

@@ -1,15 +1,13 @@
 -- Laws of serving: what the calls answered, in the meaning's terms, and one turn more. Assumes nothing.
 use mathlib.Core.Path.{_≡_, refl, sym, ap, _∙_}
-use mathlib.Core.Bool.{Bool, cond, _&&_, and-false}
+use mathlib.Core.Bool.{Bool, true, false, cond}
 use mathlib.Core.List.{List, [], _∷_, _++_, map, append-assoc, append-nil}
 use Prim.Native.Nat.{ℕ, suc, _+_, _-_, _≤_, _<_}
 use native.Mathlib.Numerals.{add-one}
 use native.Mathlib.Omega.{arith}
-use lib.Dec.{leb}
 use lib.ListN.{length, take, set, length-set}
 use lib.Seq.{take-suc-set}
-use borrow.Author.Tests.{le-leb, lt-leb}
-use Rattle.refusal.specs.Answer.{Answer}
+use Rattle.refusal.specs.Answer.{Answer, closesAfter}
 use Rattle.connection.specs.declared.record.Connection.{Connection}
 use Rattle.connection.specs.declared.record.Request.{Request}
 use Rattle.connection.specs.declared.answers.Arrival.{Arrival}
@@ -29,17 +27,13 @@ use Rattle.serving.specs.Serving.{End, idle, Serving, stopped, afterRefu
 
 -- ---- after a refusal
 module _ (number : ℕ) (c : Connection) where
-  pub stays-below : number < 5 → c ≡ afterRefusal number c
+  pub stays : (b : Bool) → b ≡ closesAfter number → b ≡ false → c ≡ afterRefusal number c
   unfolding afterRefusal
-  stays-below h = sym (ap (λ (b : Bool). cond (b && leb number 16) (closeOf c .connection) c) (lt-leb 5 number h))
+  stays b e h = sym (ap (λ (b : Bool). cond b (closeOf c .connection) c) (sym e ∙ h))
 
-  pub stays-above : 16 < number → c ≡ afterRefusal number c
+  pub closes : (b : Bool) → b ≡ closesAfter number → b ≡ true → (r : AfterClose) → toldClose r ≡ closeOf c → r .connection ≡ afterRefusal number c
   unfolding afterRefusal
-  stays-above h = sym (ap (λ (b : Bool). cond (leb 5 number && b) (closeOf c .connection) c) (lt-leb number 16 h) ∙ ap (λ (b : Bool). cond b (closeOf c .connection) c) (and-false (leb 5 number)))
-
-  pub closes : (r : AfterClose) → 5 ≤ number → number ≤ 16 → toldClose r ≡ closeOf c → r .connection ≡ afterRefusal number c
-  unfolding afterRefusal
-  closes r h k e = ap (λ (a : After). a .connection) e ∙ sym (λ i. cond (le-leb 5 number h i && le-leb number 16 k i) (closeOf c .connection) c)
+  closes b e h r f = ap (λ (a : After). a .connection) f ∙ sym (ap (λ (b : Bool). cond b (closeOf c .connection) c) (sym e ∙ h))
 
 -- ---- a turn
 -- a report, as the answer of the take before it

@@ -1,11 +1,10 @@
 -- Serving a request: document 01, "Bench trial program": "every report is plain success. After each frame it takes and reports until idle or
 -- closed". Assumes nothing.
 use Prim.Native.Nat.{ℕ, zero, suc}
-use mathlib.Core.Bool.{Bool, cond, _&&_}
+use mathlib.Core.Bool.{cond}
 use mathlib.Core.List.{List, [], _∷_, map}
-use lib.Dec.{leb}
 use lib.ListN.{take}
-use Rattle.refusal.specs.Answer.{Answer, result, refused}
+use Rattle.refusal.specs.Answer.{Answer, result, refused, closesAfter}
 use Rattle.refusal.specs.Numbers.{numberOf}
 use Rattle.connection.specs.declared.record.Connection.{Connection}
 use Rattle.connection.specs.declared.record.Request.{Request}
@@ -39,10 +38,7 @@ stopped end c = record { summaries = []; end = end; connection = c }
 abbrev pub sending : Summary → Serving → Serving
 sending s later = record { summaries = s ∷ later .summaries; end = later .end; connection = later .connection }
 
--- "The caller closes after 5 to 16"
-abbrev pub closesAfter : ℕ → Bool
-closesAfter number = leb 5 number && leb number 16
-
+-- "The caller closes after" some refusals, and leaves the record after the others
 unfoldable pub afterRefusal : ℕ → Connection → Connection
 afterRefusal number c = cond (closesAfter number) (closeOf c .connection) c
 

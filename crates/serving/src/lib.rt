@@ -59,19 +59,15 @@ pub fn stop(connection: Connection, ending: Ending) -> Served
     }
 }
 
-// The record after a refusal: the caller closes after 5 to 16.
+// The record after a refusal, after which the caller closes or not.
 fn after_refusal(connection: Connection, why: Refusal) -> Connection
     ensures { λ r. ⌜ r ≡ afterRefusal (numberOf why) connection ⌝ }
 {
-    let number = why.number();
-    if number < 5 {
-        return connection;
+    if why.closes() {
+        let closed = close::close(connection);
+        return closed.connection;
     }
-    if 16 < number {
-        return connection;
-    }
-    let closed = close::close(connection);
-    closed.connection
+    connection
 }
 
 // Nothing is sent but the refusal.

@@ -19,7 +19,7 @@ use Rattle.values.specs.Decode.{messageOf, valueIn, valueAt, items, entries, ke
 use Rattle.markers.specs.Extents.{keyExtentAt, extentAt, leafExtent, containerExtent}
 use Rattle.markers.specs.Value.{count, countEntries}
 use Rattle.packing.specs.Packing.{pack, packItems, packEntries, packInteger, sizeHeader, narrowest, doublings}
-use Rattle.entries.specs.View.{wrongIn, under}
+use Rattle.entries.specs.Lookup.{under}
 use Rattle.requests.specs.Requests.{hello, transaction, batch, run, tagged}
 use Rattle.connection.specs.Appendix.{newState, ignores, handsOver, handedSomewhere}
 use Rattle.connection.specs.Table.{namesOpen, isFull, turnOf as turnIn, successStreams, successSummary}
@@ -51,7 +51,7 @@ sent =
     ∷ []
 
 pub one-run : runOf fresh (map toDigits come) ≡ text sent
-unfolding leadingZeros bigEndian bytesOf twos unsignedAt utf8 sequencesFrom sequence completes isDigit valueOf digitOf allDigits isLine toBytes toDigits among agrees chosen negotiated feed frameOf markerOf lookup messageOf valueIn valueAt items entries keyAt keyExtentAt extentAt leafExtent containerExtent leafAt leafValue same repeats count countEntries pack packItems packEntries packInteger sizeHeader narrowest doublings wrongIn under hello transaction batch run tagged newState ignores handsOver handedSomewhere namesOpen isFull turnIn successStreams successSummary waitingRule numbersRule works mayBeInFlight countsRule stateRules rules keepsRules lineText text afterRefusal turnOf serving served handshakeIn broughtIn replying nextOf runOf
+unfolding leadingZeros bigEndian bytesOf twos unsignedAt utf8 sequencesFrom sequence completes isDigit valueOf digitOf allDigits isLine toBytes toDigits among agrees chosen negotiated feed frameOf markerOf lookup messageOf valueIn valueAt items entries keyAt keyExtentAt extentAt leafExtent containerExtent leafAt leafValue same repeats count countEntries pack packItems packEntries packInteger sizeHeader narrowest doublings under hello transaction batch run tagged newState ignores handsOver handedSomewhere namesOpen isFull turnIn successStreams successSummary waitingRule numbersRule works mayBeInFlight countsRule stateRules rules keepsRules lineText text afterRefusal turnOf serving served handshakeIn broughtIn replying nextOf runOf
 one-run = refl
 
 -- "Checked in order: length and digits, handshake or frame, bytes after it (23), request": of two faults in a line the earlier one counts. One

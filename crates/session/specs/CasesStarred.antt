@@ -23,7 +23,7 @@ use Rattle.packing.specs.Packing.{packInteger, narrowest, doublings, sizeHeader
 use Rattle.packstream.specs.RoundTrip.{located, locatedItems, locatedEntries}
 use Rattle.connection.specs.declared.answers.Summary.{Summary}
 use Rattle.connection.specs.declared.answers.Summary.the-variants as S
-use Rattle.entries.specs.View.{wrongIn, under}
+use Rattle.entries.specs.Lookup.{under}
 use Rattle.requests.specs.Requests.{requestOf, hello, transaction, batch, run, tagged}
 use Rattle.summaries.specs.Summaries.{structureOf, packSummary}
 use Rattle.requests.specs.declared.request.Request.{Request}
@@ -92,14 +92,14 @@ cases =
     -- "`81 80` 10 at 0; `82 C3 A9` accepted"
     ∷ gives (value (0x81 ∷ 0x80 ∷ [])) (decoded (refused 10 0))
     ∷ gives (value (0x82 ∷ 0xC3 ∷ 0xA9 ∷ [])) (decoded (result (string 1 (0xC3 ∷ 0xA9 ∷ []))))
-    -- "`B1 3F A1 81 6E 00`: 16 at 5", "`B1 3F A0`: 16 at 2"
-    ∷ gives (request 0 (0xB1 ∷ 0x3F ∷ 0xA1 ∷ 0x81 ∷ 0x6E ∷ 0x00 ∷ [])) (asked (refused 16 5))
-    ∷ gives (request 0 (0xB1 ∷ 0x3F ∷ 0xA0 ∷ [])) (asked (refused 16 2))
+    -- "`B1 3F A1 81 6E 00`: 16 at 5", "`B1 3F A0`: 16 at 2", with 27 and 25 for 16 (document 02, request 1)
+    ∷ gives (request 0 (0xB1 ∷ 0x3F ∷ 0xA1 ∷ 0x81 ∷ 0x6E ∷ 0x00 ∷ [])) (asked (refused 27 5))
+    ∷ gives (request 0 (0xB1 ∷ 0x3F ∷ 0xA0 ∷ [])) (asked (refused 25 2))
     -- "`B1 70 A1 83 71 69 64 05` is SUCCESS with qid 5"
     ∷ gives (value (0xB1 ∷ 0x70 ∷ 0xA1 ∷ 0x83 ∷ 0x71 ∷ 0x69 ∷ 0x64 ∷ 0x05 ∷ [])) (decoded (result (located 0 (structureOf (S.Stream 5)))))
     ∷ gives (summary (S.Stream 5)) (packed (0xB1 ∷ 0x70 ∷ 0xA1 ∷ 0x83 ∷ 0x71 ∷ 0x69 ∷ 0x64 ∷ 0x05 ∷ []))
     ∷ []
 
 pub starred : map (λ c. meaning (c .given)) cases ≡ map (λ c. c .made) cases
-unfolding negotiated agrees frameOf feed messageOf valueIn valueAt items entries keyAt keyExtentAt extentAt leafExtent containerExtent leafAt leafValue same repeats markerOf lookup unsignedAt bigEndian twos utf8 sequencesFrom sequence completes leadingZeros packInteger narrowest doublings fitsIn bitsOf bytesOf sizeHeader pack packItems packEntries located locatedItems locatedEntries count countEntries wrongIn under hello transaction batch run tagged
+unfolding negotiated agrees frameOf feed messageOf valueIn valueAt items entries keyAt keyExtentAt extentAt leafExtent containerExtent leafAt leafValue same repeats markerOf lookup unsignedAt bigEndian twos utf8 sequencesFrom sequence completes leadingZeros packInteger narrowest doublings fitsIn bitsOf bytesOf sizeHeader pack packItems packEntries located locatedItems locatedEntries count countEntries under hello transaction batch run tagged
 starred = refl

@@ -1,7 +1,7 @@
 -- What the code's checks answer, in document 01's terms. Assumes nothing.
 use Prim.Native.Nat.{ℕ}
 use Rattle.refusal.specs.Answer.{Answer, result}
-use Rattle.refusal.specs.declared.Refusal.the-variants.{InvalidField}
+use Rattle.refusal.specs.declared.Refusal.{Refusal}
 use Rattle.requests.specs.declared.request.Fault.{Fault}
 use Rattle.entries.specs.declared.view.Text.{Text}
 use Rattle.entries.specs.declared.view.Place.{Place}
@@ -15,7 +15,7 @@ use Rattle.requests.specs.declared.checks.CheckedNumber.{CheckedNumber}
 use Rattle.requests.specs.declared.checks.CheckedNumber.the-variants as CN
 use Rattle.requests.specs.declared.checks.CheckedMode.{CheckedMode}
 use Rattle.requests.specs.declared.checks.CheckedMode.the-variants as CM
-use Rattle.requests.specs.Checks.{refusedBy}
+use Rattle.requests.specs.Requests.{refusedBy}
 use Rattle.requests.specs.declared.request.Transaction.{Transaction}
 use Rattle.requests.specs.declared.request.Batch.{Batch}
 use Rattle.requests.specs.declared.extra.CheckedTransaction.{CheckedTransaction}
@@ -23,8 +23,8 @@ use Rattle.requests.specs.declared.extra.CheckedTransaction.the-variants
 use Rattle.requests.specs.declared.extra.CheckedBatch.{CheckedBatch}
 use Rattle.requests.specs.declared.extra.CheckedBatch.the-variants as CB
 
-abbrev pub faultOf : ℕ → Fault
-faultOf place = record { refusal = InvalidField; place = place }
+abbrev pub faultOf : Refusal → ℕ → Fault
+faultOf refusal place = record { refusal = refusal; place = place }
 
 abbrev pub toldText : CheckedText → Answer Text
 toldText (CT.Right text) = result text

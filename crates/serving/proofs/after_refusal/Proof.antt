@@ -1,28 +1,14 @@
--- `serve::after_refusal` meets its contract: by where the number lies. Assumes nothing.
-use native.Mathlib.Omega.{arith}
+-- `serving::after_refusal` meets its contract: by whether the caller closes. Assumes nothing.
 use borrow.Author.Needs.{needs}
-use Rattle.serving.proofs.Turns.{stays-below, stays-above, closes}
+use Rattle.serving.proofs.Turns.{stays, closes}
 use Rattle.serving.proofs.after_refusal.Statement.{statement}
 use Rattle.serving.proofs.after_refusal.Tie as tie
 
-number-requires : tie.Need-number-requires
-number-requires c κs = search needs
-
 returns : tie.Need-returns
-returns c = stays-below _ _ (omega (arith, c .before .number .ensures))
+returns c = let d = c .before in let t = d .before in closes _ _ (t .before .closes .result) (t .before .closes .ensures) (t .if1 .taken) (d .close .result) (d .close .ensures)
 
 returns-2 : tie.Need-returns-2
-returns-2 c = stays-above _ _ (omega (arith, c .before .before .number .ensures))
-
-close-requires : tie.Need-close-requires
-close-requires c κs = search needs
-
-returns-3 : tie.Need-returns-3
-returns-3 c =
-    let n = c .before .before .before .before in
-    let d = c .before in
-    closes _ _ (d .close .result) (omega (arith, n .number .ensures)) (omega (arith, n .number .ensures)) (d .close .ensures)
+returns-2 c = stays _ _ (c .before .closes .result) (c .before .closes .ensures) (c .if1 .left)
 
 pub after-refusal-spec : {M : Type 1} → statement M
-after-refusal-spec =
-    tie.close (tie.spec number-requires returns returns-2 close-requires returns-3)
+after-refusal-spec = tie.close (tie.spec (λ c κs. search needs) (λ c κs. search needs) returns returns-2)

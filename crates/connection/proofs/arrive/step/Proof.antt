@@ -27,7 +27,7 @@ size : (d : tie.Else2) → length (front (w d .queue) (w d .control .waiting)) �
 size d = let s = d .before .before .before .before in front-length (w d .queue .slots) (w d .control .waiting) (slots (w d .queue) _ (s .good .1 .0)) (few (w d) (keeps d))
 
 goes : (d : tie.Else2) {a b f : Bool} → inRange (d .before .before .before .before .args .request) ≡ a → leb 4294967295 (w d .control .accepted) ≡ b → leb 32 (length (front (w d .queue) (w d .control .waiting))) ≡ f
-    → carried (w d) (cond a (cond b (refused 20 0) (cond f (refused 17 0) (result (accept (kept (w d)) (d .before .before .before .before .args .request))))) (refused 16 0))
+    → carried (w d) (cond a (cond b (refused 20 0) (cond f (refused 17 0) (result (accept (kept (w d)) (d .before .before .before .before .args .request))))) (refused 27 0))
     ≡ arriveOf (w d) (d .before .before .before .before .args .request)
 goes d p q u = ap (carried (w d)) (arrive-by (kept (w d)) (d .before .before .before .before .args .request) p q u) ∙ go-on (w d) _ (keeps d) (sym (d .before .is-in .ensures) ∙ d .if2 .left)
 

@@ -16,7 +16,7 @@ use Rattle.meulhaton.proofs.calls.arriving.Tie as tie
 
 -- what a kind that names no request gets
 abbrev none : Table → Answer Done
-none t = unlessDefunct t (refused 16 0)
+none t = unlessDefunct t (refused 27 0)
 
 returns : tie.Need-returns
 returns c =

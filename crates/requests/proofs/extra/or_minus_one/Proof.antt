@@ -2,7 +2,7 @@
 use mathlib.Core.Path.{sym, ap, _∙_}
 use mir.Facts.{toZ-ofZ}
 use borrow.Author.Needs.{sfits-of, needs}
-use Rattle.requests.specs.Checks.{orMinusOne}
+use Rattle.requests.specs.Private.Views.{orMinusOne}
 use Rattle.requests.proofs.extra.or_minus_one.Statement.{statement}
 use Rattle.requests.proofs.extra.or_minus_one.Tie as tie
 

@@ -4,14 +4,14 @@ use Prim.Native.Nat.{_+_}
 use native.Mathlib.Omega.{arith}
 use borrow.Author.Needs.{needs}
 use Rattle.refusal.specs.Answer.{Answer, result, andThen}
-use Rattle.requests.specs.Checks.{refusedBy}
+use Rattle.requests.specs.Checks.{complaints}
 use Rattle.requests.specs.Private.Checks.{toldTransaction}
 use Rattle.entries.specs.declared.view.Span.{Span}
 use Rattle.requests.specs.declared.request.Transaction.{Transaction}
 use Rattle.requests.specs.declared.request.Request.{Request}
 use Rattle.requests.specs.declared.request.Request.the-variants as R
 use Rattle.requests.specs.declared.extra.CheckedTransaction.{CheckedTransaction}
-use Rattle.requests.specs.Requests.{run, told}
+use Rattle.requests.specs.Requests.{run, told, refusedBy}
 use Rattle.entries.proofs.Peeking.{string-within}
 use Rattle.requests.proofs.Fields.{three-wrong, no-query, no-parameters, not-cut, no-run-extra, run-there}
 use Rattle.requests.proofs.read.run.Statement.{statement}
@@ -23,14 +23,14 @@ runWith query t = result (R.Run query (query .start + query .size) t)
 
 returns : tie.Need-returns
 returns c = let a = c .before .before .before .args in λ vs fields.
-    ap told (c .refused .ensures) ∙ three-wrong (a .fields) vs run (fields .count) (c .before .if1 .taken)
+    ap told (c .refused .ensures) ∙ three-wrong (a .fields) vs (run complaints) (fields .count) (c .before .if1 .taken)
 
 enum-told : tie.Need-enum-told
 enum-told c = search needs
 
 returns-2 : tie.Need-returns-2
 returns-2 c = let a = c .before .before .before .before .before .before .args in λ vs fields.
-    ap refusedBy (c .invalid .ensures)
+    ap refusedBy (c .complaint .ensures)
     ∙ no-query (a .message .now) (a .at) (a .fields) vs fields (c .before .before .before .before .if1 .left)
     (sym (c .before .enum-told .given .1) ∙ c .before .before .before .string-at .ensures)
 
@@ -40,7 +40,7 @@ add-parameters c = let a = c .before .before .before .before .before .before .be
 
 returns-3 : tie.Need-returns-3
 returns-3 c = let a = c .before .before .before .before .before .before .before .before .before .before .before .args in let q = c .before .before .before .before .before .before in λ vs fields.
-    ap refusedBy (c .invalid2 .ensures)
+    ap refusedBy (c .complaint2 .ensures)
     ∙ no-parameters (a .message .now) (a .at) (a .fields) vs fields (q .before .before .before .if1 .left)
     (q .query .given .0 .0) (sym (q .query .given .1) ∙ q .before .before .string-at .ensures)
     (sym (c .before .enum-told3 .given .1) ∙ c .before .before .before .entries-at .ensures)
@@ -54,7 +54,7 @@ returns-4 c = let a = c .before .before .before .before .before .before .before 
 
 returns-5 : tie.Need-returns-5
 returns-5 c = let a = c .before .before .before .before .before .before .before .before .before .before .before .before .before .before .before .before .before .before .args in let q = c .before .before .before .before .before .before .before .before .before .before .before .before .before in let p = c .before .before .before .before .before .before .before .before in let x = c .before .before .before .before .before in λ vs fields.
-    ap refusedBy (c .invalid4 .ensures)
+    ap refusedBy (c .complaint4 .ensures)
     ∙ no-run-extra (a .message .now) (a .at) (a .fields) vs fields (q .before .before .before .if1 .left)
     (q .query .given .0 .0) (sym (q .query .given .1) ∙ q .before .before .string-at .ensures)
     (p .enum-told2 .given .0 .0) (p .enum-told2 .given .0 .1 .0) (sym (p .enum-told2 .given .1) ∙ p .before .before .entries-at .ensures)
