@@ -1,5 +1,6 @@
 //! The comparisons: the same call on both sides, answers and lent memory equal.
 
+use crate::complaints::{Complaint, complaint};
 use crate::generate;
 use crate::random::Random;
 use crate::sides::{Found, Head, Item, Side};
@@ -20,6 +21,8 @@ pub struct Tally {
     pub refused: BTreeMap<u8, u64>,
     /// By what a call on a record replied.
     pub replied: BTreeMap<&'static str, u64>,
+    /// By the request's tag, and what was wrong in it.
+    pub complained: BTreeMap<(u8, Complaint), u64>,
 }
 
 impl Tally {
@@ -31,14 +34,18 @@ impl Tally {
         for (name, count) in other.replied {
             *self.replied.entry(name).or_default() += count;
         }
+        for (complaint, count) in other.complained {
+            *self.complained.entry(complaint).or_default() += count;
+        }
     }
 }
 
 /// The refusals that a comparison of everything must have met.
-pub const REFUSALS: [u8; 23] = [1, 2, 3, 4, 5, 6, 7, 8, 9, 10, 11, 12, 13, 14, 15, 16, 17, 18, 19, 20, 21, 22, 24];
+pub const REFUSALS: [u8; 25] =
+    [1, 2, 3, 4, 5, 6, 7, 8, 9, 10, 11, 12, 13, 14, 15, 17, 18, 19, 20, 21, 22, 24, 25, 26, 27];
 
-/// The replies that it must have met, and the refusals of a kind or an outcome that names nothing.
-pub const REPLIES: [&str; 18] = [
+/// The replies that it must have met, and the refusals of a kind, an outcome, an n or a qid that names nothing.
+pub const REPLIES: [&str; 19] = [
     "queued",
     "closed",
     "idle",
@@ -51,7 +58,8 @@ pub const REPLIES: [&str; 18] = [
     "full",
     "unknown",
     "failed",
-    "no kind: 16",
+    "n or qid: 27",
+    "no kind: 27",
     "no kind: 18",
     "no kind: 24",
     "no outcome: 19",
@@ -249,6 +257,9 @@ impl<'s, A: Side, B: Side> Comparison<'s, A, B> {
     fn request_of(&mut self, message: &[u8]) -> std::result::Result<(), Difference> {
         let version = self.random.pick(&Version::ALL);
         let (left, right) = (self.left.read_request(version, message), self.right.read_request(version, message));
+        if let Some(complaint) = right.err().and_then(|refusal| complaint(message, refusal)) {
+            *self.tally.complained.entry(complaint).or_default() += 1;
+        }
         self.equal(|| format!("request {version:?} {}", hex(message)), left, right).map(drop)
     }
 

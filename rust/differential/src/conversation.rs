@@ -71,15 +71,16 @@ fn name(reply: &Reply) -> &'static str {
     }
 }
 
-/// How a call was refused whose kind or outcome names nothing.
+/// How a call was refused whose kind or outcome names nothing, or whose n or qid is out of its range.
 fn unnamed(call: Call, answer: &reference::Result<Reply>) -> Option<&'static str> {
     let number = answer.as_ref().err()?.number;
     match call {
         Call::Arrive(request) if request.kind().is_none() => match number {
-            16 => Some("no kind: 16"),
+            27 => Some("no kind: 27"),
             18 => Some("no kind: 18"),
             _ => Some("no kind: 24"),
         },
+        Call::Arrive(_) if number == 27 => Some("n or qid: 27"),
         Call::Report(outcome) if report(outcome).is_none() => match number {
             19 => Some("no outcome: 19"),
             18 => Some("no outcome: 18"),

@@ -245,11 +245,9 @@ pub fn request(random: &mut Random) -> Vec<u8> {
     }
     let mut writer = Writer { random, bytes: vec![0xB0 + fields.len() as u8, tag], budget: 200 };
     for field in fields {
-        if writer.random.once_in(25) {
-            writer.value(2);
-            continue;
-        }
         match field {
+            _ if writer.random.once_in(80) => writer.bytes.push(0xC0),
+            _ if writer.random.once_in(25) => writer.value(2),
             b'q' => writer.text(),
             b'p' => {
                 let size = writer.random.below(4);
@@ -308,7 +306,11 @@ fn entry(writer: &mut Writer, name: &str) {
             let size = writer.random.below(4);
             writer.size(0x90, 0xD4, size);
             for _ in 0..size {
-                if writer.random.once_in(10) { writer.value(1) } else { writer.text() }
+                match writer.random.below(20) {
+                    0 => writer.bytes.push(0xC0),
+                    1..=2 => writer.value(1),
+                    _ => writer.text(),
+                }
             }
         }
         _ => writer.text(),

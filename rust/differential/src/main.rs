@@ -2,6 +2,7 @@
 //! difference. `differential [SEED]` tries other inputs.
 
 mod compare;
+mod complaints;
 mod conversation;
 mod generate;
 mod library;
@@ -42,8 +43,27 @@ fn compare<A: Side, B: Side>(left: &A, right: &B, seed: u64, share: u64) -> Resu
     Ok(total)
 }
 
+/// How often each complaint about a request must have come.
+const COMPLAINTS_LEAST: u64 = 50;
+
 /// What came, and whether everything came that there is.
 fn complete(tally: &Tally) -> bool {
+    every_reply(tally) & every_complaint(tally)
+}
+
+fn every_complaint(tally: &Tally) -> bool {
+    let counted = complaints::all().map(|(tag, complaint)| {
+        let count = tally.complained.get(&(tag, complaint)).copied().unwrap_or(0);
+        (format!("{tag:02X} {complaint:?}"), count)
+    });
+    let counted: Vec<(String, u64)> = counted.collect();
+    let counts: Vec<String> = counted.iter().map(|(name, count)| format!("{name}: {count}")).collect();
+    println!("complaints: {}", counts.join(", "));
+    let rare = counted.iter().find(|(_, count)| *count < COMPLAINTS_LEAST);
+    rare.inspect(|(name, _)| println!("HARDLY MET: {name}")).is_none()
+}
+
+fn every_reply(tally: &Tally) -> bool {
     let refused = REFUSALS.map(|number| (number.to_string(), tally.refused.get(&number).copied().unwrap_or(0)));
     let replied = REPLIES.map(|name| (name.to_owned(), tally.replied.get(name).copied().unwrap_or(0)));
     for (what, counts) in [("refusals", &refused[..]), ("replies", &replied)] {
@@ -70,9 +90,9 @@ fn main() -> ExitCode {
 mod tests {
     use super::*;
     use crate::sides::{Asked, Call, Found, Image, Item, Reply};
-    use reference::Result;
     use reference::frame::Frame;
     use reference::handshake::Version;
+    use reference::{Refusal, Result};
 
     /// The reference with one fault.
     #[derive(Clone, Copy, PartialEq, Debug)]
@@ -89,12 +109,30 @@ mod tests {
         LosesCount,
         BreaksForNoKind,
         FailsForNoOutcome,
+        KindAndRangeExchanged,
+        NullFieldIsAbsent,
+        AbsentAtItsNull,
+        ArrivesAsWrongKind,
+    }
+
+    impl Fault {
+        /// The refusal of a request as a side with this fault gives it.
+        fn refusal(self, message: &[u8], refusal: Refusal) -> Refusal {
+            let null = message.iter().skip(refusal.place).position(|&byte| byte == 0xC0);
+            match (self, refusal.number) {
+                (Fault::KindAndRangeExchanged, 26) => Refusal { number: 27, ..refusal },
+                (Fault::KindAndRangeExchanged, 27) => Refusal { number: 26, ..refusal },
+                (Fault::NullFieldIsAbsent, 26) if null == Some(0) => Refusal { number: 25, ..refusal },
+                (Fault::AbsentAtItsNull, 25) => Refusal { place: refusal.place + null.unwrap_or(0), ..refusal },
+                _ => refusal,
+            }
+        }
     }
 
     impl Side for Fault {
         fn negotiate(&self, input: &[u8]) -> Result<Version> {
             if *self == Fault::PreambleAfterLength && input.len() < 20 {
-                return Err(reference::Refusal::new(1));
+                return Err(Refusal::new(1));
             }
             Reference.negotiate(input)
         }
@@ -128,7 +166,8 @@ mod tests {
         }
 
         fn read_request(&self, version: Version, message: &[u8]) -> Result<Asked> {
-            let mut asked = Reference.read_request(version, message)?;
+            let asked = Reference.read_request(version, message);
+            let mut asked = asked.map_err(|refusal| self.refusal(message, refusal))?;
             if let Asked::Begin(extra) = &mut asked
                 && *self == Fault::AbsentIsZero
             {
@@ -140,7 +179,7 @@ mod tests {
         fn pack(&self, item: Item, buffer: &mut [u8], at: usize) -> Result<usize> {
             match item {
                 Item::Integer(number @ -128..0) if *self == Fault::NegativeIsWide => {
-                    let room = buffer.get_mut(at..at + 2).ok_or(reference::Refusal::new(21))?;
+                    let room = buffer.get_mut(at..at + 2).ok_or(Refusal::new(21))?;
                     room.copy_from_slice(&[0xC8, number as u8]);
                     Ok(at + 2)
                 }
@@ -161,12 +200,15 @@ mod tests {
             }
             let call = match call {
                 Call::Arrive(request) if *self == Fault::BreaksForNoKind && request.kind().is_none() => {
-                    return Err(reference::Refusal::new(24));
+                    return Err(Refusal::new(24));
                 }
                 Call::Report(3..) if *self == Fault::FailsForNoOutcome => Call::Report(2),
                 call => call,
             };
-            let reply = Reference.call(image, call)?;
+            let reply = Reference.call(image, call).map_err(|refusal| match refusal.number {
+                27 if *self == Fault::ArrivesAsWrongKind => Refusal::new(26),
+                _ => refusal,
+            })?;
             if *self == Fault::LosesCount && matches!(reply, Reply::Reported(_)) {
                 image.sent -= 1;
             }
@@ -195,6 +237,10 @@ mod tests {
             LosesCount,
             BreaksForNoKind,
             FailsForNoOutcome,
+            KindAndRangeExchanged,
+            NullFieldIsAbsent,
+            AbsentAtItsNull,
+            ArrivesAsWrongKind,
         ] {
             assert!(compare(&fault, &Reference, 7, 20).is_err(), "{fault:?}");
         }

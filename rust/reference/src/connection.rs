@@ -127,11 +127,11 @@ impl Default for Connection {
 }
 
 impl Connection {
-    /// Queues a request; `None` is a kind that is no request's, which is wrong as a number out of its range is. Refusals: 24, 18, 16, 20, 17.
+    /// Queues a request; `None` is a number that names no kind, which is out of its range as an n can be. Refusals: 24, 18, 27, 20, 17.
     pub fn arrive(&mut self, kind: impl Into<Option<Kind>>) -> Result<Arrival> {
         self.usable()?;
         let Some(kind) = kind.into().filter(|kind| kind.in_range()) else {
-            return Err(Refusal::new(Refusal::FIELD_OR_ENTRY));
+            return Err(Refusal::new(Refusal::OUT_OF_RANGE));
         };
         if self.accepted == ACCEPTED_MAX {
             return Err(Refusal::new(Refusal::COUNT_EXHAUSTED));
@@ -528,9 +528,27 @@ mod tests {
         full.accepted = ACCEPTED_MAX;
         full.sent = ACCEPTED_MAX - 32;
         assert_eq!(full.arrive(Run), Err(Refusal::new(20)));
-        assert_eq!(full.arrive(pull(-2)), Err(Refusal::new(16)));
+        assert_eq!(full.arrive(pull(-2)), Err(Refusal::new(27)));
+        let mut defunct = full;
+        defunct.close().unwrap();
+        assert_eq!(defunct.arrive(pull(-2)), Err(Refusal::new(18)));
         full.sent += 1;
         assert_eq!(full.arrive(pull(-2)), Err(Refusal::new(24)));
+    }
+
+    #[test]
+    fn numbers_that_arrive() {
+        let ready = after(&[Hello]);
+        for (n, qid) in [(-1, -1), (1, 0), (i64::MAX, i64::MAX)] {
+            let batch = Batch { n, qid };
+            assert_eq!({ ready }.arrive(Kind::Pull(batch)), Ok(Arrival::Queued));
+            assert_eq!({ ready }.arrive(Kind::Discard(batch)), Ok(Arrival::Queued));
+        }
+        for (n, qid) in [(0, -1), (-2, -1), (i64::MIN, 0), (1, -2), (-1, i64::MIN), (0, -2)] {
+            let batch = Batch { n, qid };
+            assert_eq!({ ready }.arrive(Kind::Pull(batch)), Err(Refusal::new(27)));
+            assert_eq!({ ready }.arrive(Kind::Discard(batch)), Err(Refusal::new(27)));
+        }
     }
 
     #[test]
@@ -540,11 +558,11 @@ mod tests {
             connection.arrive(Run).unwrap();
         }
         connection.take().unwrap();
-        assert_eq!(connection.arrive(None), Err(Refusal::new(16)));
+        assert_eq!(connection.arrive(None), Err(Refusal::new(27)));
         assert_eq!(connection.report(None), Err(Refusal::new(19)));
         connection.accepted = ACCEPTED_MAX;
         connection.sent = ACCEPTED_MAX - 32;
-        assert_eq!(connection.arrive(None), Err(Refusal::new(16)));
+        assert_eq!(connection.arrive(None), Err(Refusal::new(27)));
         let mut broken = connection;
         broken.sent += 1;
         assert_eq!(broken.arrive(None), Err(Refusal::new(24)));

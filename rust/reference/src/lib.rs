@@ -36,7 +36,6 @@ impl Refusal {
     pub const BYTES_LEFT_OVER: u8 = 13;
     pub const UNKNOWN_REQUEST: u8 = 14;
     pub const FIELD_COUNT: u8 = 15;
-    pub const FIELD_OR_ENTRY: u8 = 16;
     pub const QUEUE_FULL: u8 = 17;
     pub const DEFUNCT: u8 = 18;
     pub const NOT_IN_FLIGHT: u8 = 19;
@@ -45,6 +44,9 @@ impl Refusal {
     pub const NO_CHUNKS: u8 = 22;
     pub const INVALID_LINE: u8 = 23;
     pub const RULE_BROKEN: u8 = 24;
+    pub const MISSING_ENTRY: u8 = 25;
+    pub const WRONG_KIND: u8 = 26;
+    pub const OUT_OF_RANGE: u8 = 27;
 
     /// A refusal whose number has no place of its own.
     pub const fn new(number: u8) -> Self {

@@ -67,41 +67,46 @@ struct Placed<'a> {
 }
 
 impl<'a> Placed<'a> {
-    fn wrong<T>(self) -> Result<T> {
-        Err(Refusal::at(Refusal::FIELD_OR_ENTRY, self.place))
+    fn wrong_kind<T>(self) -> Result<T> {
+        Err(Refusal::at(Refusal::WRONG_KIND, self.place))
+    }
+
+    fn out_of_range<T>(self) -> Result<T> {
+        Err(Refusal::at(Refusal::OUT_OF_RANGE, self.place))
     }
 
     fn string(self) -> Result<&'a str> {
         match self.value {
             Value::String(text) => Ok(text),
-            _ => self.wrong(),
+            _ => self.wrong_kind(),
         }
     }
 
     fn dictionary(self) -> Result<Container<'a>> {
         match self.value {
             Value::Dictionary(entries) => Ok(entries),
-            _ => self.wrong(),
+            _ => self.wrong_kind(),
         }
     }
 
     fn integer(self, in_range: impl Fn(i64) -> bool) -> Result<i64> {
         match self.value {
             Value::Integer(number) if in_range(number) => Ok(number),
-            _ => self.wrong(),
+            Value::Integer(_) => self.out_of_range(),
+            _ => self.wrong_kind(),
         }
     }
 
     fn mode(self) -> Result<Mode> {
-        match self.value {
-            Value::String("r") => Ok(Mode::Read),
-            Value::String("w") => Ok(Mode::Write),
-            _ => self.wrong(),
+        match self.string()? {
+            "r" => Ok(Mode::Read),
+            "w" => Ok(Mode::Write),
+            _ => self.out_of_range(),
         }
     }
 
     fn list_of_strings(self) -> Result<Container<'a>> {
-        let Value::List(items) = self.value else { return self.wrong() };
+        let Value::List(items) = self.value else { return self.wrong_kind() };
         let mut reader = items.reader();
         for _ in 0..items.size {
             let place = reader.place();
@@ -129,7 +134,7 @@ fn known<'a, const N: usize>(extra: Container<'a>, names: [&str; N]) -> Result<[
 
 /// A required entry that is absent is refused at the Dictionary's marker.
 fn required<'a>(entry: Option<Placed<'a>>, extra: Container<'a>) -> Result<Placed<'a>> {
-    entry.ok_or(Refusal::at(Refusal::FIELD_OR_ENTRY, extra.place))
+    entry.ok_or(Refusal::at(Refusal::MISSING_ENTRY, extra.place))
 }
 
 fn hello(version: Version, extra: Container<'_>) -> Result<Request<'_>> {
@@ -164,7 +169,9 @@ fn batch(extra: Container<'_>) -> Result<Batch> {
     })
 }
 
-/// Reads `message` as a request. Refusals: those of a value (6, 7 to 13), then 14, 15, and 16 for fields, then entries.
+/// Reads `message` as a request. Refusals: those of a value (6, 7 to 13), then 14, 15, then 26 at the first field of
+/// another kind, then 25, 26 or 27 for the first entry that is wrong, in checking order. A field is never absent: Null
+/// is of the wrong kind there.
 pub fn read(version: Version, message: &[u8]) -> Result<Request<'_>> {
     let mut reader = Reader::new(message)?;
     let root = reader.head(16)?;
@@ -218,8 +225,8 @@ mod tests {
 
     #[test]
     fn edges_of_the_paper() {
-        assert_eq!(refused(b"\xB1\x3F\xA1\x81n\x00"), (16, 5));
-        assert_eq!(refused(b"\xB1\x3F\xA0"), (16, 2));
+        assert_eq!(refused(b"\xB1\x3F\xA1\x81n\x00"), (27, 5));
+        assert_eq!(refused(b"\xB1\x3F\xA0"), (25, 2));
     }
 
     #[test]
@@ -246,10 +253,10 @@ mod tests {
         assert!(read(V4_0, b"\xB1\x01\xA1\x8Auser_agent\x83P/1").is_ok());
         assert!(read(V4_1, b"\xB1\x01\xA2\x87routing\xC0\x8Auser_agent\x83P/1").is_ok());
         // Required and absent comes before what is wrong in later names.
-        assert_eq!(refused(b"\xB1\x01\xA1\x86scheme\x01"), (16, 2));
-        assert_eq!(refused(b"\xB1\x01\xA1\x8Auser_agent\xC0"), (16, 2));
-        assert_eq!(refused(b"\xB1\x01\xA2\x86scheme\x01\x8Auser_agent\x01"), (16, 22));
-        assert_eq!(refused(b"\xB1\x01\xA2\x87routing\x01\x8Auser_agent\x80"), (16, 11));
+        assert_eq!(refused(b"\xB1\x01\xA1\x86scheme\x01"), (25, 2));
+        assert_eq!(refused(b"\xB1\x01\xA1\x8Auser_agent\xC0"), (25, 2));
+        assert_eq!(refused(b"\xB1\x01\xA2\x86scheme\x01\x8Auser_agent\x01"), (26, 22));
+        assert_eq!(refused(b"\xB1\x01\xA2\x87routing\x01\x8Auser_agent\x80"), (26, 11));
         assert!(read(V4_0, b"\xB1\x01\xA2\x87routing\x01\x8Auser_agent\x80").is_ok());
     }
 
@@ -264,10 +271,10 @@ mod tests {
         assert_eq!(extra.tx_metadata.map(|entries| entries.size), Some(1));
         assert_eq!((extra.mode, extra.db), (Some(Mode::Read), None));
         assert!(read(V4_0, b"\xB3\x10\xD0\x16CALL dbms.procedures()\xA0\xA0").is_ok());
-        assert_eq!(refused(b"\xB3\x10\xC0\xA0\xA0"), (16, 2));
-        assert_eq!(refused(b"\xB3\x10\x80\x90\xA1\x84mode\x01"), (16, 3));
-        assert_eq!(refused(b"\xB3\x10\x80\xA0\xC0"), (16, 4));
-        assert_eq!(refused(b"\xB3\x10\x01\xA0\xC0"), (16, 2));
+        assert_eq!(refused(b"\xB3\x10\xC0\xA0\xA0"), (26, 2));
+        assert_eq!(refused(b"\xB3\x10\x80\x90\xA1\x84mode\x01"), (26, 3));
+        assert_eq!(refused(b"\xB3\x10\x80\xA0\xC0"), (26, 4));
+        assert_eq!(refused(b"\xB3\x10\x01\xA0\xC0"), (26, 2));
     }
 
     #[test]
@@ -276,11 +283,11 @@ mod tests {
             \x89bookmarks\x92\xD0\x12example-bookmark:1\xD0\x11example-bookmark2";
         let Ok(Request::Begin(extra)) = read(V4_0, message) else { panic!() };
         assert_eq!((extra.db, extra.bookmarks.map(|items| items.size)), (Some("example_database"), Some(2)));
-        assert_eq!(refused(b"\xB1\x11\xA2\x82db\x01\x84mode\x81x"), (16, 12));
-        assert_eq!(refused(b"\xB1\x11\xA2\x84mode\x80\x8Atx_timeout\xFF"), (16, 20));
-        assert_eq!(refused(b"\xB1\x11\xA1\x89bookmarks\x93\x81a\xC0\x01"), (16, 16));
-        assert_eq!(refused(b"\xB1\x11\xA1\x89bookmarks\xA0"), (16, 13));
-        assert_eq!(refused(b"\xB1\x11\xA1\x8Btx_metadata\x90"), (16, 15));
+        assert_eq!(refused(b"\xB1\x11\xA2\x82db\x01\x84mode\x81x"), (27, 12));
+        assert_eq!(refused(b"\xB1\x11\xA2\x84mode\x80\x8Atx_timeout\xFF"), (27, 20));
+        assert_eq!(refused(b"\xB1\x11\xA1\x89bookmarks\x93\x81a\xC0\x01"), (26, 16));
+        assert_eq!(refused(b"\xB1\x11\xA1\x89bookmarks\xA0"), (26, 13));
+        assert_eq!(refused(b"\xB1\x11\xA1\x8Btx_metadata\x90"), (26, 15));
         assert!(read(V4_0, b"\xB1\x11\xA1\x84mode\xD0\x01w").is_ok());
         assert!(read(V4_0, b"\xB1\x11\xA2\x85other\x91\xA1\x84mode\x01\x84mode\xC0").is_ok());
     }
@@ -291,10 +298,13 @@ mod tests {
         assert_eq!(read(V4_0, b"\xB1\x2F\xA1\x81n\xC9\x03\xE8"), Ok(Request::Discard(Batch { n: 1000, qid: -1 })));
         assert_eq!(read(V4_0, b"\xB1\x2F\xA2\x83qid\x00\xD0\x01n\x01"), Ok(Request::Discard(Batch { n: 1, qid: 0 })));
         assert_eq!(read(V4_0, b"\xB1\x3F\xA2\x81n\x01\x83qid\xC0"), Ok(Request::Pull(Batch { n: 1, qid: -1 })));
-        assert_eq!(refused(b"\xB1\x3F\xA2\x83qid\x80\x81n\x81x"), (16, 10));
-        assert_eq!(refused(b"\xB1\x3F\xA2\x83qid\xFE\x81n\x01"), (16, 7));
-        assert_eq!(refused(b"\xB1\x3F\xA1\x81n\xFE"), (16, 5));
-        assert_eq!(refused(b"\xB1\x3F\xA1\x81n\xC0"), (16, 2));
+        assert_eq!(refused(b"\xB1\x3F\xA2\x83qid\x80\x81n\x81x"), (26, 10));
+        assert_eq!(refused(b"\xB1\x3F\xA2\x83qid\xFE\x81n\x01"), (27, 7));
+        assert_eq!(refused(b"\xB1\x3F\xA1\x81n\xFE"), (27, 5));
+        assert_eq!(refused(b"\xB1\x3F\xA1\x81n\xC0"), (25, 2));
+        // What n is comes before what qid is, whatever is wrong with each.
+        assert_eq!(refused(b"\xB1\x3F\xA2\x81n\x00\x83qid\xC3"), (27, 5));
+        assert_eq!(refused(b"\xB1\x3F\xA1\x83qid\xC3"), (25, 2));
     }
 
     #[test]
@@ -308,7 +318,7 @@ mod tests {
         assert_eq!(refused(&[0xB1, 0x66]), (7, 2));
         assert_eq!(refused(&[0xB1, 0x02, 0x01]), (15, 0));
         assert_eq!(refused(&[0xB2, 0x10, 0x01, 0xA0]), (15, 0));
-        assert_eq!(refused(&[0xB1, 0x3F, 0x01]), (16, 2));
+        assert_eq!(refused(&[0xB1, 0x3F, 0x01]), (26, 2));
         assert_eq!(refused(&[0xB1, 0x3F, 0x01, 0x01]), (13, 3));
         assert_eq!(refused(&[0xB0; 16_385]), (6, 0));
     }

@@ -159,6 +159,17 @@ mod tests {
         assert_eq!(lines(b"a\n\nb").collect::<Vec<_>>(), [&b"a"[..], b"", b"b"]);
     }
 
+    /// A PULL with no n, with an n that is text, and with an n of 0; nothing behind them is read.
+    #[test]
+    fn entries_that_are_wrong() {
+        for (pull, refusal) in
+            [("0003B13FA00000", "19"), ("0007B13FA1816E81310000", "1A"), ("0006B13FA1816E000000", "1B")]
+        {
+            let input = format!("6060B01700000104000000040000000000000000\n{pull}\n0002B0020000\n");
+            assert_eq!(run(input.as_bytes()), format!("00000104\n{refusal}\n").into_bytes());
+        }
+    }
+
     #[test]
     fn four_zeros_before_3() {
         assert_eq!(run(b"6060B01700000005000000000000000000000000"), b"00000000\n03\n");

@@ -66,17 +66,40 @@ fn refused_messages() -> Vec<Vec<u8>> {
         b"\xB1\x70\xA0",
         b"\xB0\x10",
         b"\xB2\x02\xC0\xC0",
-        b"\xB1\x3F\xA0",
-        b"\xB1\x3F\xA1\x81n\x00",
-        b"\xB1\x11\xA1\x8Atx_timeout\xFF",
-        b"\xB1\x01\xA0",
-        b"\xB1\x01\xC0",
     ]
     .map(<[u8]>::to_vec)
     .into();
     all.push([&[0x91; 16][..], &[0x90]].concat());
+    all.extend(WRONG_ENTRIES.map(<[u8]>::to_vec));
     all
 }
+
+/// Requests with a required entry that is absent, with a field, an entry or an item of the wrong kind, with a number or a
+/// word out of range, and with two of these.
+const WRONG_ENTRIES: [&[u8]; 22] = [
+    b"\xB1\x3F\xA0",
+    b"\xB1\x2F\xA1\x83qid\x00",
+    b"\xB1\x3F\xA1\x81n\xC0",
+    b"\xB1\x01\xA0",
+    b"\xB1\x01\xA2\x8Auser_agent\xC0\x86scheme\x01",
+    b"\xB1\x01\xC0",
+    b"\xB1\x01\xA1\x8Auser_agent\x01",
+    b"\xB1\x01\xA2\x8Auser_agent\x80\x87routing\x90",
+    b"\xB1\x3F\xC0",
+    b"\xB1\x3F\xA1\x81n\x811",
+    b"\xB3\x10\xC0\xA0\xA0",
+    b"\xB3\x10\x81R\xC0\xA1\x84mode\x81x",
+    b"\xB3\x10\x81R\xA0\xA1\x84mode\x01",
+    b"\xB1\x11\xA1\x89bookmarks\x92\x81a\xC0",
+    b"\xB1\x11\xA2\x84mode\x81x\x89bookmarks\xA0",
+    b"\xB1\x3F\xA1\x81n\x00",
+    b"\xB1\x3F\xA2\x81n\x00\x83qid\xC3",
+    b"\xB1\x2F\xA2\x83qid\xFE\x81n\x01",
+    b"\xB1\x11\xA1\x8Atx_timeout\xFF",
+    b"\xB1\x11\xA1\x84mode\x80",
+    b"\xB3\x10\x81R\xA0\xA1\x84mode\x82rw",
+    b"\xB1\x11\xA2\x82db\x01\x84mode\x81R",
+];
 
 /// A RUN that takes so many bytes with its query.
 fn long_run(size: usize) -> Vec<u8> {
@@ -122,12 +145,19 @@ fn conversation(random: &mut Random, length: usize) -> Vec<u8> {
     input
 }
 
-/// Every input.
-pub fn cases(random: &mut Random) -> Vec<Vec<u8>> {
-    let one_run: Vec<u8> =
-        [handshake(1), message(HELLO), line(&[0, 0]), message(RUN), message(PULL), message(GOODBYE)].concat();
-    let greeted = |minor, behind: &[u8]| [handshake(minor), message(HELLO), behind.to_vec()].concat();
-    let mut all = vec![
+/// A conversation behind handshake and HELLO.
+fn greeted(minor: u8, behind: &[u8]) -> Vec<u8> {
+    [handshake(minor), message(HELLO), behind.to_vec()].concat()
+}
+
+/// The run that document 01 has whole.
+fn one_run() -> Vec<u8> {
+    [handshake(1), message(HELLO), line(&[0, 0]), message(RUN), message(PULL), message(GOODBYE)].concat()
+}
+
+/// Input that ends early, lines that are no handshake or no frame, and frames at the edges.
+fn edges() -> Vec<Vec<u8>> {
+    vec![
         Vec::new(),
         b"\n".to_vec(),
         b"\n\n".to_vec(),
@@ -150,8 +180,8 @@ pub fn cases(random: &mut Random) -> Vec<Vec<u8>> {
         [handshake(1), b"\0\n".to_vec()].concat(),
         [handshake(1), handshake(1)].concat(),
         [handshake(1), message(RESET), message(HELLO)].concat(),
-        [one_run.clone(), message(RUN)].concat(),
-        one_run.iter().flat_map(|&byte| if byte == b'\n' { vec![b'\r', b'\n'] } else { vec![byte] }).collect(),
+        [one_run(), message(RUN)].concat(),
+        one_run().iter().flat_map(|&byte| if byte == b'\n' { vec![b'\r', b'\n'] } else { vec![byte] }).collect(),
         greeted(0, &line(&[0, 0])),
         greeted(1, &line(&[0])),
         greeted(1, &line(&[0, 3, 0xB0])),
@@ -161,7 +191,12 @@ pub fn cases(random: &mut Random) -> Vec<Vec<u8>> {
         greeted(1, &message(RUN).repeat(3)),
         greeted(2, &[message(BEGIN), message(RUN).repeat(9), message(PULL), message(RESET), message(RUN)].concat()),
         greeted(2, &line(&[0, 0]).repeat(30_000)),
-    ];
+    ]
+}
+
+/// Every input.
+pub fn cases(random: &mut Random) -> Vec<Vec<u8>> {
+    let mut all = edges();
     for refused in refused_messages() {
         all.push(greeted(1, &[message(&refused), message(RUN)].concat()));
     }
@@ -174,6 +209,7 @@ pub fn cases(random: &mut Random) -> Vec<Vec<u8>> {
     }
     all.push(greeted(1, &[&[b'0'; 200_000][..], b"\n", &message(PULL)].concat()));
     all.push(greeted(1, &[longest.clone(), message(PULL)].concat().repeat(4)));
+    let one_run = one_run();
     all.push(one_run[..one_run.len() - 1].to_vec());
     all.push(one_run);
     all.extend((0..60).map(|_| {

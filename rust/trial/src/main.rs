@@ -16,7 +16,7 @@ use std::thread;
 const READ_MAX: usize = 65_536;
 
 /// The refusals that the program can give: its connection has nothing waiting between two lines, and keeps its rules.
-const REFUSALS: [u8; 17] = [1, 2, 3, 4, 5, 6, 7, 8, 9, 10, 11, 12, 13, 14, 15, 16, 23];
+const REFUSALS: [u8; 19] = [1, 2, 3, 4, 5, 6, 7, 8, 9, 10, 11, 12, 13, 14, 15, 23, 25, 26, 27];
 
 /// What the program writes if its reads give these blocks. A datagram is a read, and an empty one the end of the input.
 fn run(program: &str, blocks: &[&[u8]]) -> io::Result<Vec<u8>> {
@@ -128,6 +128,22 @@ mod tests {
             Ok(if output.len() <= 9 { Vec::new() } else { output })
         };
         assert!(compare(swallowed).is_err());
+    }
+
+    /// 1A and 1B are 26 and 27 as the program writes them.
+    #[test]
+    fn kind_and_range_exchanged_are_found() {
+        let exchanged = |blocks: &[&[u8]]| {
+            let mut output = whole(blocks);
+            let digit = output.len().saturating_sub(2);
+            match &output[digit.saturating_sub(2)..] {
+                b"\n1A\n" => output[digit] = b'B',
+                b"\n1B\n" => output[digit] = b'A',
+                _ => {}
+            }
+            Ok(output)
+        };
+        assert!(compare(exchanged).is_err());
     }
 
     #[test]
