@@ -14,7 +14,7 @@ static void send_bytes(const uint8_t *bytes, size_t length) {
 }
 
 static void stop(const char *what, uint8_t refusal) {
-    fprintf(stderr, "%s refused with %d\n", what, refusal);
+    fprintf(stderr, "%s refused with %d: %s\n", what, refusal, meulhaton_refusal_text(refusal));
     exit(1);
 }
 

@@ -10,13 +10,14 @@
  *
  * What every answer has. `refusal` is 0, or the number of one of the refusals below. A refused call consumed 0 and changed nothing:
  * neither the buffer nor the connection, and but for `refusal` and `place` its answer is all zeros. `place` is an offset into the
- * message where a reader refuses with 7 to 16, and else 0.
+ * message where a reader refuses with 7 to 13 or 25 to 27, and else 0. meulhaton_refusal_text has a refusal's text for people.
  *
  * What the caller does after a refusal.
  *    4          wait: call again when more bytes have come, with all the bytes from the frame's first on.
  *    17         take, and report on what is handed over, then call again: 32 requests wait already.
  *    21         call again with a larger buffer.
- *    5 to 16    close: the requests that wait may still be taken and answered, and no other arrives; then call meulhaton_close, send
+ *    5 to 15, 25 to 27 (meulhaton_closes)
+ *               close: the requests that wait may still be taken and answered, and no other arrives; then call meulhaton_close, send
  *               what was answered, and drop the transport.
  *    1, 2       no connection yet: 1 waits for the rest of the 20 bytes, 2 drops the transport.
  *    3          send four zeros and drop the transport.
@@ -36,32 +37,46 @@
 extern "C" {
 #endif
 
-/* ---- refusals: document 01, "Refusal numbers" */
+/* ---- refusals: document 01, "Refusal numbers", with 25, 26 and 27 in place of 16
+ *
+ * MEULHATON_HANDSHAKE_TRUNCATED = 1 to MEULHATON_OUT_OF_RANGE = 27 are the lines of meulhaton_refusals.def, which lies beside this
+ * header. What a caller has to know beyond their texts:
+ *     2  a byte of the preamble that is there is wrong, however few bytes are there
+ *     3  send four zeros
+ *     6  over 16,384 bytes; of a packer also a header for more than can be
+ *     7  a marker, its size or tag, or its content is missing
+ *     9  of meulhaton_read_value: more open containers than the depth that was passed
+ *    19  nothing in flight, more for a request that has none, or no outcome's number
+ *    24  the record breaks a standing rule; a number of it, a version or a summary names nothing
+ *    25  a required entry is absent, or Null: n of DISCARD and PULL, user_agent of HELLO; the place is the Dictionary's marker
+ *    26  a field or an entry of another kind than it has to be, or an item of bookmarks that is no String; the place is its marker.
+ *        Null is of the wrong kind for a field and for an item; an entry that is Null counts as absent
+ *    27  n, qid or tx_timeout out of its range, or a mode other than "r" and "w"; the place is its marker. Of meulhaton_arrive: n or
+ *        qid, or a kind that is no request's; no place */
 enum {
-    MEULHATON_HANDSHAKE_TRUNCATED = 1,   /* handshake short */
-    MEULHATON_WRONG_PREAMBLE = 2,        /* a byte of the preamble that is there is wrong */
-    MEULHATON_NO_COMMON_VERSION = 3,     /* nothing in common: send four zeros */
-    MEULHATON_FRAME_INCOMPLETE = 4,      /* frame incomplete: wait for more */
-    MEULHATON_EMPTY_MESSAGE = 5,         /* empty message, in 4.0 */
-    MEULHATON_TOO_LONG = 6,              /* over 16,384 bytes; a header for more than can be */
-    MEULHATON_VALUE_TRUNCATED = 7,       /* a marker, its size or tag, or its content is missing */
-    MEULHATON_RESERVED_MARKER = 8,       /* a marker that stands for nothing */
-    MEULHATON_TOO_DEEP = 9,              /* too many open containers: a message has room for 16 */
-    MEULHATON_INVALID_UTF8 = 10,         /* a String that is not UTF-8 */
-    MEULHATON_KEY_NOT_STRING = 11,       /* a Dictionary's key is no String */
-    MEULHATON_DUPLICATE_KEY = 12,        /* a Dictionary's key comes twice */
-    MEULHATON_TRAILING_BYTES = 13,       /* bytes are left over after the value */
-    MEULHATON_UNKNOWN_REQUEST = 14,      /* not a known request structure */
-    MEULHATON_WRONG_FIELD_COUNT = 15,    /* a request with another number of fields */
-    MEULHATON_INVALID_FIELD = 16,        /* a field or an entry that is wrong or absent; n or qid out of range; no request's kind */
-    MEULHATON_QUEUE_FULL = 17,           /* 32 requests wait */
-    MEULHATON_CONNECTION_DEFUNCT = 18,   /* the connection is DEFUNCT */
-    MEULHATON_UNEXPECTED_REPORT = 19,    /* nothing in flight, more for a request that has none, or no outcome's number */
-    MEULHATON_REQUEST_LIMIT_REACHED = 20, /* 4,294,967,295 accepted */
-    MEULHATON_NO_ROOM = 21,              /* no room in the lent buffer */
-    MEULHATON_INVALID_CHUNKING = 22,     /* empty message, or chunk size not 1 to 65,535 */
-    MEULHATON_INVALID_RECORD = 24        /* the record breaks a standing rule; a number of it, a version or a summary names nothing */
+#define REFUSAL(number, name, text) MEULHATON_##name = number,
+#include "meulhaton_refusals.def"
+#undef REFUSAL
 };
+
+/* A refusal's text for people; another one for a number that is no refusal's. */
+static inline const char *meulhaton_refusal_text(uint8_t refusal) {
+    switch (refusal) {
+#define REFUSAL(number, name, text) \
+    case number:                    \
+        return text;
+#include "meulhaton_refusals.def"
+#undef REFUSAL
+    default:
+        return "no refusal has this number";
+    }
+}
+
+/* Whether the caller has to close the connection after this refusal. */
+static inline bool meulhaton_closes(uint8_t refusal) {
+    return (refusal >= MEULHATON_EMPTY_MESSAGE && refusal <= MEULHATON_WRONG_FIELD_COUNT) ||
+           (refusal >= MEULHATON_MISSING_ENTRY && refusal <= MEULHATON_OUT_OF_RANGE);
+}
 
 /* ---- the handshake */
 
@@ -239,7 +254,8 @@ typedef struct {
 } meulhaton_request_read;
 
 /* What a message of Bolt 4.minor asks for.
- * Refusals: 24 (minor is not 0, 1 or 2); those of meulhaton_read_message; then 14, 15, 16. */
+ * Refusals: 24 (minor is not 0, 1 or 2); those of meulhaton_read_message; then 14, 15; then 26 at the leftmost field of the wrong kind;
+ * then 25, 26 or 27 of the first entry that is wrong, in document 01's checking order. */
 meulhaton_request_read meulhaton_read_request(uint8_t minor, const uint8_t *message, size_t message_length);
 
 /* ---- summaries */
@@ -326,7 +342,7 @@ meulhaton_connection meulhaton_fresh(void);
 /* A request has come. A RESET interrupts what is going on at once. In CONNECTED, until HELLO was reported a success, it closes the
  * connection, and a HELLO that waits goes unanswered: give HELLO its turn before what comes behind it arrives.
  * Answers: MEULHATON_QUEUED, or MEULHATON_CLOSED for a RESET in CONNECTED.
- * Refusals, in this order: 24, 18, 16 (n or qid is out of its range, or the kind is no request's), 20, 17. */
+ * Refusals, in this order: 24, 18, 27 (n or qid is out of its range, or the kind is no request's), 20, 17. */
 meulhaton_reply meulhaton_arrive(meulhaton_connection *connection, meulhaton_request request);
 
 /* The turn of the first request that waits.

@@ -1,4 +1,4 @@
-/* Each function of the header once, on cases of document 01, with what a refused call leaves as it was. Writes nothing where all hold.
+/* Each function of the header, on cases of document 01, with what a refused call leaves as it was. Writes nothing where all hold.
  *
  *    cc -Wall -Wextra -o test bindings/c/test.c target/staticlib/libmeulhaton.a && ./test
  */
@@ -22,6 +22,35 @@ static int failed = 0;
 
 static bool is(const uint8_t *found, const char *expected, size_t length) {
     return memcmp(found, expected, length) == 0;
+}
+
+/* The numbers of the refusals, as the table has them. */
+static const uint8_t numbers[] = {
+#define REFUSAL(number, name, text) number,
+#include "meulhaton_refusals.def"
+#undef REFUSAL
+};
+
+static void texts(void) {
+    const char *none = meulhaton_refusal_text(0);
+    for (int number = 0; number < 256; number++) {
+        bool refusal = number >= 1 && number <= 27 && number != 16;
+        bool closes = (number >= 5 && number <= 15) || (number >= 25 && number <= 27);
+        HOLDS((memchr(numbers, number, sizeof numbers) != NULL) == refusal);
+        HOLDS((strcmp(meulhaton_refusal_text((uint8_t)number), none) != 0) == refusal);
+        HOLDS(meulhaton_closes((uint8_t)number) == closes);
+    }
+    HOLDS(sizeof numbers == 26);
+    for (size_t i = 0; i < sizeof numbers; i++) {
+        const char *text = meulhaton_refusal_text(numbers[i]);
+        HOLDS(strlen(text) > 0 && strlen(text) < 80 && text[strlen(text) - 1] != '.');
+        for (size_t j = 0; j < i; j++) HOLDS(strcmp(text, meulhaton_refusal_text(numbers[j])) != 0);
+    }
+    HOLDS(strcmp(meulhaton_refusal_text(16), none) == 0 && strcmp(meulhaton_refusal_text(28), none) == 0);
+    HOLDS(MEULHATON_MISSING_ENTRY == 25 && MEULHATON_WRONG_KIND == 26 && MEULHATON_OUT_OF_RANGE == 27);
+    HOLDS(strcmp(meulhaton_refusal_text(25), "a required entry is missing") == 0);
+    HOLDS(strcmp(meulhaton_refusal_text(26), "a field or an entry is of the wrong kind, such as a text in place of a number") == 0);
+    HOLDS(strcmp(meulhaton_refusal_text(27), "a number is out of its range, or a word is none of those allowed") == 0);
 }
 
 static void wire(void) {
@@ -81,8 +110,30 @@ static void requests(void) {
     HOLDS(read.request.kind == MEULHATON_RUN && read.fields.run.query.start == 3 && read.fields.run.parameters.offset == 4);
     HOLDS(read.fields.transaction.mode == MEULHATON_MODE_WRITE && read.fields.transaction.tx_timeout.value == 5);
     HOLDS(read.fields.transaction.db.size == 1 && !read.fields.transaction.bookmarks.present);
-    read = meulhaton_read_request(0, BYTES("\xB1\x3F\xA1\x81n\x00"));
-    HOLDS(read.refusal == MEULHATON_INVALID_FIELD && read.place == 5 && read.request.kind == 0);
+}
+
+static void request_refused(const uint8_t *message, size_t length, uint8_t refusal, uint64_t place, int line) {
+    meulhaton_request_read read = meulhaton_read_request(1, message, length);
+    if (read.refusal != refusal || read.place != place || read.request.kind != 0) {
+        fprintf(stderr, "line %d: %d at %d\n", line, read.refusal, (int)read.place);
+        failed = 1;
+    }
+}
+
+#define REFUSED(message, refusal, place) request_refused(BYTES(message), refusal, place, __LINE__)
+
+static void wrong_requests(void) {
+    REFUSED("\xB1\x3F\xA0", MEULHATON_MISSING_ENTRY, 2);
+    REFUSED("\xB1\x3F\xA1\x81n\xC0", MEULHATON_MISSING_ENTRY, 2);
+    REFUSED("\xB1\x01\xA1\x86scheme\x01", MEULHATON_MISSING_ENTRY, 2);
+    REFUSED("\xB1\x3F\xA1\x81n\x81\x31", MEULHATON_WRONG_KIND, 5);
+    REFUSED("\xB1\x3F\xC0", MEULHATON_WRONG_KIND, 2);
+    REFUSED("\xB3\x10\xC0\xA0\xA1\x84mode\x81x", MEULHATON_WRONG_KIND, 2);
+    REFUSED("\xB1\x11\xA1\x89" "bookmarks\x92\x81" "a\xC0", MEULHATON_WRONG_KIND, 16);
+    REFUSED("\xB1\x3F\xA1\x81n\x00", MEULHATON_OUT_OF_RANGE, 5);
+    REFUSED("\xB1\x3F\xA2\x81n\x00\x83qid\xC3", MEULHATON_OUT_OF_RANGE, 5);
+    REFUSED("\xB1\x11\xA1\x84mode\x80", MEULHATON_OUT_OF_RANGE, 8);
+    REFUSED("\xB1\x11\xA1\x8Atx_timeout\xFF", MEULHATON_OUT_OF_RANGE, 14);
 }
 
 /* Padding aside. */
@@ -118,8 +169,8 @@ static void calls(void) {
     HOLDS(meulhaton_report(&connection, (meulhaton_outcome){MEULHATON_OUTCOME_MORE}).refusal == MEULHATON_UNEXPECTED_REPORT);
     HOLDS(meulhaton_report(&connection, (meulhaton_outcome){3}).refusal == MEULHATON_UNEXPECTED_REPORT);
     reply = meulhaton_arrive(&connection, (meulhaton_request){0, 1, -1});
-    HOLDS(reply.refusal == MEULHATON_INVALID_FIELD && reply.place == 0 && reply.said == 0);
-    HOLDS(meulhaton_arrive(&connection, (meulhaton_request){MEULHATON_PULL, 0, -1}).refusal == MEULHATON_INVALID_FIELD);
+    HOLDS(reply.refusal == MEULHATON_OUT_OF_RANGE && reply.place == 0 && reply.said == 0);
+    HOLDS(meulhaton_arrive(&connection, (meulhaton_request){MEULHATON_PULL, 0, -1}).refusal == MEULHATON_OUT_OF_RANGE);
     HOLDS(same(&connection, &before));
     reply = meulhaton_report(&connection, (meulhaton_outcome){MEULHATON_OUTCOME_SUCCESS});
     HOLDS(reply.said == MEULHATON_ANSWERED && reply.number == 1 && reply.summary.kind == MEULHATON_SUCCESS);
@@ -132,7 +183,7 @@ static void calls(void) {
     connection.accepted = 7;
     unnamed(&connection, MEULHATON_INVALID_RECORD, MEULHATON_INVALID_RECORD);
     connection = before;
-    unnamed(&connection, MEULHATON_INVALID_FIELD, MEULHATON_UNEXPECTED_REPORT);
+    unnamed(&connection, MEULHATON_OUT_OF_RANGE, MEULHATON_UNEXPECTED_REPORT);
     HOLDS(meulhaton_arrive(&connection, (meulhaton_request){MEULHATON_RUN, 5, -7}).said == MEULHATON_QUEUED);
     HOLDS(connection.requests[0].kind == MEULHATON_RUN && connection.requests[0].n == 0 && connection.requests[0].qid == 0);
     HOLDS(meulhaton_close(&connection).said == MEULHATON_CLOSED && connection.state == MEULHATON_DEFUNCT);
@@ -141,9 +192,11 @@ static void calls(void) {
 }
 
 int main(void) {
+    texts();
     wire();
     values();
     requests();
+    wrong_requests();
     calls();
     return failed;
 }

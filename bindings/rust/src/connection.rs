@@ -200,7 +200,7 @@ impl Connection {
     /// A request has come. A RESET interrupts what is going on at once. In CONNECTED, until HELLO was reported a success, it closes the
     /// connection, and a HELLO that waits goes unanswered: give HELLO its turn before what comes behind it arrives.
     ///
-    /// Refuses, in this order, with 24 where the record breaks a standing rule, 18 where it is DEFUNCT, 16 where n or qid is out of its
+    /// Refuses, in this order, with 24 where the record breaks a standing rule, 18 where it is DEFUNCT, 27 where n or qid is out of its
     /// range, 20 where 4,294,967,295 requests were accepted, and 17 where 32 wait: then take first, and do not close.
     pub fn arrive(&mut self, request: Request) -> Result<Arrival, Refusal> {
         // SAFETY: the pointer is that of one whole record, lent to this call alone.

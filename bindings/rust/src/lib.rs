@@ -4,10 +4,10 @@
 //! has arrived, then take and report until it is idle or closed; each summary is packed by [`pack_summary`] and written by
 //! [`write_chunks`].
 //!
-//! Every call that can be refused answers a [`Refusal`]: it consumed nothing and changed nothing. Close the connection after 5 to 16
-//! ([`Refusal::closes`]); not after 4 (wait for more bytes), 17 (take first) or 21 (lend a larger buffer). Before there is a connection,
-//! 1 waits for the rest of the twenty bytes, 2 ends it, and 3 ends it after four zeros. 18 says that the connection is DEFUNCT, 20 that
-//! it has to end; 19, 22 and 24 are the caller's own mistakes.
+//! Every call that can be refused answers a [`Refusal`]: it consumed nothing and changed nothing; [`Refusal::text`] says for people what
+//! is wrong. Close the connection after 5 to 15 and 25 to 27 ([`Refusal::closes`]); not after 4 (wait for more bytes), 17 (take first) or
+//! 21 (lend a larger buffer). Before there is a connection, 1 waits for the rest of the twenty bytes, 2 ends it, and 3 ends it after four
+//! zeros. 18 says that the connection is DEFUNCT, 20 that it has to end; 19, 22 and 24 are the caller's own mistakes.
 mod connection;
 pub mod raw;
 mod refusal;

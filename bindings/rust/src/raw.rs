@@ -54,7 +54,7 @@ pub struct ValueRead {
 }
 
 /// A request: its tag, and n and qid of DISCARD and PULL. `meulhaton_arrive` refuses a kind that is no request's as it refuses an n out of
-/// its range: with 16, after 24 and 18.
+/// its range: with 27, after 24 and 18.
 #[repr(C)]
 #[derive(Clone, Copy, Debug, Default, PartialEq, Eq)]
 pub struct RequestImage {

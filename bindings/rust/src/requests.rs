@@ -105,7 +105,10 @@ fn fields(request: Request, f: raw::FieldsImage) -> Fields {
 /// What a message asks for.
 ///
 /// Refuses as `read_message` does, then with 14 where it is no known request structure, with 15 where it has another number of fields,
-/// and with 16 at the first field or entry that is wrong. The connection is to be closed after each of them.
+/// with 26 at the leftmost field of the wrong kind, and for the first entry that is wrong, in document 01's checking order, with 25 at
+/// the Dictionary where it is required and absent or Null, with 26 at the entry where its kind is wrong (of bookmarks, at the first item
+/// that is no String), and with 27 at the entry where its number or word is out of range. The connection is to be closed after each of
+/// them.
 pub fn read_request(version: Version, message: &[u8]) -> Result<RequestRead, Refusal> {
     // SAFETY: the pointer and the length are those of one slice.
     let answer = unsafe { raw::meulhaton_read_request(version.minor(), message.as_ptr(), message.len()) };

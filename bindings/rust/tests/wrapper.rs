@@ -7,6 +7,31 @@ fn refused(number: u8, place: usize) -> Refusal {
 }
 
 #[test]
+fn texts() {
+    let text = |number| refused(number, 0).text();
+    let none = text(0);
+    let numbers: Vec<u8> = (0..=u8::MAX).filter(|&number| text(number) != none).collect();
+    assert!(numbers.iter().copied().eq((1..=15).chain(17..=27)));
+    assert_eq!((text(16), text(28)), (none, none));
+    for (i, &number) in numbers.iter().enumerate() {
+        assert!((1..80).contains(&text(number).len()) && !text(number).ends_with('.'), "{number}");
+        assert!(numbers[..i].iter().all(|&other| text(other) != text(number)), "{number}");
+    }
+    assert_eq!(text(25), "a required entry is missing");
+    assert_eq!(text(26), "a field or an entry is of the wrong kind, such as a text in place of a number");
+    assert_eq!(text(27), "a number is out of its range, or a word is none of those allowed");
+    assert_eq!(refused(25, 2).to_string(), "25 at 2: a required entry is missing");
+    // C has the same text for no refusal.
+    assert!(include_str!("../../c/meulhaton.h").contains(&format!("return \"{none}\";")));
+}
+
+#[test]
+fn what_closes() {
+    let closing = (0..=u8::MAX).filter(|&number| refused(number, 0).closes());
+    assert!(closing.eq((5..=15).chain(25..=27)));
+}
+
+#[test]
 fn handshake() {
     let mut hello = vec![0x60, 0x60, 0xB0, 0x17, 0, 0, 3, 4, 0, 0, 1, 4, 0, 0, 0, 4, 0, 0, 0, 0];
     assert_eq!(negotiate(&hello), Ok(Version::V4_1));
@@ -133,8 +158,20 @@ fn requests() {
     let pull = Request::Pull { n: -1, qid: -1 };
     assert_eq!(read(b"\xB1\x3F\xA1\x81n\xFF"), Ok(RequestRead { request: pull, fields: Fields::None }));
     assert_eq!(read(b"\xB0\x02"), Ok(RequestRead { request: Request::Goodbye, fields: Fields::None }));
-    assert_eq!(read(b"\xB1\x3F\xA1\x81n\x00"), Err(refused(16, 5)));
-    assert_eq!(read(b"\xB1\x3F\xA0"), Err(refused(16, 2)));
+}
+
+#[test]
+fn wrong_requests() {
+    let read = |message: &[u8]| read_request(Version::V4_1, message);
+    assert_eq!(read(b"\xB1\x3F\xA0"), Err(refused(25, 2)));
+    assert_eq!(read(b"\xB1\x3F\xA1\x81n\xC0"), Err(refused(25, 2)));
+    assert_eq!(read(b"\xB1\x3F\xA1\x81n\x811"), Err(refused(26, 5)));
+    assert_eq!(read(b"\xB1\x3F\xC0"), Err(refused(26, 2)));
+    assert_eq!(read(b"\xB3\x10\xC0\xA0\xA1\x84mode\x81x"), Err(refused(26, 2)));
+    assert_eq!(read(b"\xB1\x11\xA1\x89bookmarks\x92\x81a\xC0"), Err(refused(26, 16)));
+    assert_eq!(read(b"\xB1\x3F\xA1\x81n\x00"), Err(refused(27, 5)));
+    assert_eq!(read(b"\xB1\x3F\xA2\x81n\x00\x83qid\xC3"), Err(refused(27, 5)));
+    assert_eq!(read(b"\xB1\x11\xA1\x84mode\x80"), Err(refused(27, 8)));
     assert_eq!(read(b"\xB1\x02\xA0"), Err(refused(15, 0)));
     assert_eq!(read(b"\xB0\x55"), Err(refused(14, 0)));
     assert_eq!(read(b"\xB0"), Err(refused(7, 0)));
@@ -178,7 +215,7 @@ fn transaction() {
 fn refused_calls_leave_the_record() {
     let mut c = ready();
     let before = c.clone();
-    assert_eq!(c.arrive(Request::Pull { n: 0, qid: -1 }), Err(refused(16, 0)));
+    assert_eq!(c.arrive(Request::Pull { n: 0, qid: -1 }), Err(refused(27, 0)));
     assert_eq!(c.report(Outcome::Success), Err(refused(19, 0)));
     assert_eq!(c, before);
     for _ in 0..32 {
@@ -221,13 +258,13 @@ fn unnamed(image: &Image) -> (u8, u8) {
 #[test]
 fn unnamed_kinds_and_outcomes() {
     let mut c = ready();
-    assert_eq!(unnamed(c.image()), (16, 19));
+    assert_eq!(unnamed(c.image()), (27, 19));
     for _ in 0..32 {
         assert_eq!(c.arrive(Request::Run), Ok(Arrival::Queued));
     }
-    assert_eq!(unnamed(c.image()), (16, 19));
+    assert_eq!(unnamed(c.image()), (27, 19));
     assert_eq!(c.take(), Ok(Taken::Handed { request: Request::Run, number: 2 }));
-    assert_eq!(unnamed(c.image()), (16, 19));
+    assert_eq!(unnamed(c.image()), (27, 19));
     let mut broken = c.image().clone();
     broken.sent += 1;
     assert_eq!(unnamed(&broken), (24, 24));

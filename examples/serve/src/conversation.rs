@@ -1,5 +1,5 @@
 //! A conversation over the library: bytes are gathered until there is a frame, its request arrives, and whatever
-//! waits gets its turn and its summary.
+//! waits gets its turn and its summary. Where a refusal ends it, the log has a line that says why.
 
 use meulhaton::{Arrival, Connection, Frame, Outcome, Refusal, Request, State, Summary, Taken, Version};
 use std::io::{self, Read, Write};
@@ -8,6 +8,8 @@ const HANDSHAKE_SHORT: u8 = 1;
 const NOTHING_IN_COMMON: u8 = 3;
 const FRAME_INCOMPLETE: u8 = 4;
 const QUEUE_FULL: u8 = 17;
+const DEFUNCT: u8 = 18;
+const REQUEST_LIMIT_REACHED: u8 = 20;
 const NO_ROOM: u8 = 21;
 
 /// The bytes of a handshake.
@@ -23,10 +25,10 @@ enum Next {
 }
 
 /// Serves one client until it leaves, says GOODBYE, or has to be left.
-pub fn serve(input: &mut impl Read, output: &mut impl Write) -> io::Result<()> {
+pub fn serve(input: &mut impl Read, output: &mut impl Write, log: &mut impl Write) -> io::Result<()> {
     let mut gathered = Gathered { input, bytes: Vec::new() };
-    let Some(version) = shake_hands(&mut gathered, output)? else { return output.flush() };
-    let mut conversation = Conversation::new(version, output);
+    let Some(version) = shake_hands(&mut gathered, output, log)? else { return output.flush() };
+    let mut conversation = Conversation::new(version, output, log);
     loop {
         let next = conversation.hear(&mut gathered.bytes)?;
         conversation.output.flush()?;
@@ -55,7 +57,11 @@ impl<R: Read> Gathered<'_, R> {
 }
 
 /// The version agreed on, or none where the connection ends here.
-fn shake_hands(gathered: &mut Gathered<impl Read>, output: &mut impl Write) -> io::Result<Option<Version>> {
+fn shake_hands(
+    gathered: &mut Gathered<impl Read>,
+    output: &mut impl Write,
+    log: &mut impl Write,
+) -> io::Result<Option<Version>> {
     loop {
         match meulhaton::negotiate(&gathered.bytes) {
             Ok(version) => {
@@ -68,29 +74,32 @@ fn shake_hands(gathered: &mut Gathered<impl Read>, output: &mut impl Write) -> i
                 if refusal.number == NOTHING_IN_COMMON {
                     output.write_all(&[0; 4])?;
                 }
+                tell(log, refusal);
                 return Ok(None);
             }
         }
     }
 }
 
-struct Conversation<'o, W> {
+struct Conversation<'o, W, L> {
     version: Version,
     connection: Connection,
     output: &'o mut W,
+    log: &'o mut L,
     /// Lent to the library, and enlarged where it says that there is no room.
     message: Vec<u8>,
     summary: Vec<u8>,
     chunks: Vec<u8>,
 }
 
-impl<'o, W: Write> Conversation<'o, W> {
-    fn new(version: Version, output: &'o mut W) -> Self {
+impl<'o, W: Write, L: Write> Conversation<'o, W, L> {
+    fn new(version: Version, output: &'o mut W, log: &'o mut L) -> Self {
         let buffer = || vec![0; 64];
         Conversation {
             version,
             connection: Connection::fresh(),
             output,
+            log,
             message: buffer(),
             summary: buffer(),
             chunks: buffer(),
@@ -112,7 +121,7 @@ impl<'o, W: Write> Conversation<'o, W> {
                     }
                 }
                 Err(Refusal { number: FRAME_INCOMPLETE, .. }) => break Next::ReadMore,
-                Err(_) => break Next::Close,
+                Err(refusal) => break self.refused(refusal)?,
             }
         };
         bytes.drain(..heard);
@@ -124,7 +133,10 @@ impl<'o, W: Write> Conversation<'o, W> {
 
     /// The message's request joins those that wait; where too many wait, they get their turn first.
     fn arrive(&mut self, length: usize) -> io::Result<Next> {
-        let Ok(read) = meulhaton::read_request(self.version, &self.message[..length]) else { return Ok(Next::Close) };
+        let read = match meulhaton::read_request(self.version, &self.message[..length]) {
+            Ok(read) => read,
+            Err(refusal) => return self.refused(refusal),
+        };
         loop {
             match self.connection.arrive(read.request) {
                 // HELLO gets its turn at once: a RESET that arrives before it has had it closes the connection.
@@ -135,9 +147,20 @@ impl<'o, W: Write> Conversation<'o, W> {
                         return Ok(Next::Close);
                     }
                 }
-                Ok(Arrival::Closed) | Err(_) => return Ok(Next::Close),
+                Ok(Arrival::Closed) => return Ok(Next::Close),
+                Err(refusal) => return self.refused(refusal),
             }
         }
+    }
+
+    /// The log says what is wrong with what the client sent, and the connection closes. Any other refusal is not the
+    /// client's.
+    fn refused(&mut self, refusal: Refusal) -> io::Result<Next> {
+        if refusal.closes() || refusal.number == REQUEST_LIMIT_REACHED {
+            tell(self.log, refusal);
+            return Ok(Next::Close);
+        }
+        Err(unexpected(refusal))
     }
 
     /// Gives the waiting requests their turns until none waits.
@@ -148,9 +171,10 @@ impl<'o, W: Write> Conversation<'o, W> {
                 Ok(Taken::Answered(answered)) => answered.summary,
                 Ok(Taken::Handed { request, .. }) => match self.connection.report(engine(request)) {
                     Ok(answered) => answered.summary,
-                    Err(_) => return Ok(Next::Close),
+                    Err(refusal) => return Err(unexpected(refusal)),
                 },
-                Ok(Taken::Closed) | Err(_) => return Ok(Next::Close),
+                Ok(Taken::Closed) | Err(Refusal { number: DEFUNCT, .. }) => return Ok(Next::Close),
+                Err(refusal) => return Err(unexpected(refusal)),
             };
             self.send(summary)?;
         }
@@ -180,7 +204,12 @@ fn with_room<T>(buffer: &mut Vec<u8>, mut call: impl FnMut(&mut [u8]) -> Result<
     }
 }
 
-/// A summary always fits a message, and a message its chunks.
+/// A log that cannot be written is no reason to treat the client differently.
+fn tell(log: &mut impl Write, refusal: Refusal) {
+    let _ = writeln!(log, "refused: {refusal}");
+}
+
+/// The calls are made so that no other refusal comes: a summary, say, always fits a message, and a message its chunks.
 fn unexpected(refusal: Refusal) -> io::Error {
-    io::Error::other(format!("refusal {} in sending a summary", refusal.number))
+    io::Error::other(format!("refused: {refusal}"))
 }

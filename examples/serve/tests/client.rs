@@ -157,9 +157,15 @@ fn talk(pieces: Vec<Vec<u8>>) -> Vec<u8> {
 
 /// Sends `first`, waits for `awaited` bytes, and only then goes on.
 fn talk_after(first: &[u8], awaited: usize, pieces: Vec<Vec<u8>>) -> Vec<u8> {
+    talk_and_log(first, awaited, pieces).0
+}
+
+/// What comes back, and what the server logs.
+fn talk_and_log(first: &[u8], awaited: usize, pieces: Vec<Vec<u8>>) -> (Vec<u8>, String) {
     let mut server = Command::new(env!("CARGO_BIN_EXE_serve"))
         .stdin(Stdio::piped())
         .stdout(Stdio::piped())
+        .stderr(Stdio::piped())
         .spawn()
         .expect("serve runs");
     let mut to_server = server.stdin.take().expect("a pipe");
@@ -181,8 +187,10 @@ fn talk_after(first: &[u8], awaited: usize, pieces: Vec<Vec<u8>>) -> Vec<u8> {
     });
     from_server.read_to_end(&mut answers).expect("serve answers");
     client.join().expect("the client ends");
-    assert!(server.wait().expect("serve ends").success());
-    answers
+    let ended = server.wait_with_output().expect("serve ends");
+    let log = String::from_utf8_lossy(&ended.stderr).into_owned();
+    assert!(ended.status.success(), "{log}");
+    (answers, log)
 }
 
 /// Takes the version and then the messages out of what the server sent.
@@ -345,7 +353,7 @@ fn failures_until_reset() {
     assert_eq!(answers(&mut Random(4), 0, &nine), expected(&nine));
 }
 
-/// Each of these is refused with 5 to 16; what came before is answered, and nothing after.
+/// Each of these is refused with 7 to 15 or 25 to 27; what came before is answered, and nothing after.
 #[test]
 fn closes_after_refusals() {
     for refused in [
@@ -366,6 +374,31 @@ fn closes_after_refusals() {
     // An empty message in 4.0.
     let bytes = [raw(&mut Random(7), 0, &[hello()]), vec![0, 0], frame(&goodbye().request, 9)].concat();
     assert_eq!(messages(0, &talk(vec![bytes])), [SUCCESS]);
+}
+
+/// A PULL with no n, with an n that is text, and with an n of 0: what came before is answered, nothing after, and the
+/// log tells them apart.
+#[test]
+fn closes_after_a_wrong_entry() {
+    for (pull_refused, line) in [
+        (&b"\xB1\x3F\xA0"[..], "refused: 25 at 2: a required entry is missing\n"),
+        (
+            b"\xB1\x3F\xA1\x81n\x811",
+            "refused: 26 at 5: a field or an entry is of the wrong kind, such as a text in place of a number\n",
+        ),
+        (
+            b"\xB1\x3F\xA1\x81n\x00",
+            "refused: 27 at 5: a number is out of its range, or a word is none of those allowed\n",
+        ),
+    ] {
+        let exchanges = [hello(), begin(), run("part", qid(0)), exchange(pull_refused, []), pull(), commit()];
+        let bytes = raw(&mut Random(14), 2, &exchanges);
+        for pieces in [vec![bytes.clone()], cut(&mut Random(15), &bytes)] {
+            let (answers, log) = talk_and_log(&[], 0, pieces);
+            assert_eq!(messages(2, &answers), expected(&exchanges[..3]));
+            assert_eq!(log, line);
+        }
+    }
 }
 
 #[test]
@@ -401,4 +434,6 @@ fn handshakes() {
     assert_eq!(talk(vec![b"GET / HTTP/1.1\r\n".to_vec()]), []);
     assert_eq!(talk(vec![PREAMBLE.to_vec()]), []);
     assert_eq!(talk(vec![[&PREAMBLE[..], &[0, 0, 3, 4, 0, 0, 2, 4], &[0; 8]].concat()]), [0, 0, 2, 4]);
+    let (_, log) = talk_and_log(&[], 0, vec![b"GET / HTTP/1.1\r\n".to_vec()]);
+    assert_eq!(log, "refused: 2 at 0: the handshake does not begin with 60 60 B0 17\n");
 }
