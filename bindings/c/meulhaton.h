@@ -54,19 +54,19 @@ extern "C" {
  *    27  n, qid or tx_timeout out of its range, or a mode other than "r" and "w"; the place is its marker. Of meulhaton_arrive: n or
  *        qid, or a kind that is no request's; no place */
 enum {
-#define REFUSAL(number, name, text) MEULHATON_##name = number,
+#define MEULHATON_REFUSAL(number, name, text) MEULHATON_##name = number,
 #include "meulhaton_refusals.def"
-#undef REFUSAL
+#undef MEULHATON_REFUSAL
 };
 
 /* A refusal's text for people; another one for a number that is no refusal's. */
 static inline const char *meulhaton_refusal_text(uint8_t refusal) {
     switch (refusal) {
-#define REFUSAL(number, name, text) \
-    case number:                    \
+#define MEULHATON_REFUSAL(number, name, text) \
+    case number:                              \
         return text;
 #include "meulhaton_refusals.def"
-#undef REFUSAL
+#undef MEULHATON_REFUSAL
     default:
         return "no refusal has this number";
     }

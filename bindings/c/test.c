@@ -26,9 +26,9 @@ static bool is(const uint8_t *found, const char *expected, size_t length) {
 
 /* The numbers of the refusals, as the table has them. */
 static const uint8_t numbers[] = {
-#define REFUSAL(number, name, text) number,
+#define MEULHATON_REFUSAL(number, name, text) number,
 #include "meulhaton_refusals.def"
-#undef REFUSAL
+#undef MEULHATON_REFUSAL
 };
 
 static void texts(void) {

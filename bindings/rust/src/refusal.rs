@@ -1,7 +1,7 @@
 //! Why a call was refused.
 use std::fmt;
 
-/// The refusals with their texts, the same table that the C header is made from: a line is `REFUSAL(number, NAME, "text")`.
+/// The refusals with their texts, the same table that the C header is made from: a line is `MEULHATON_REFUSAL(number, NAME, "text")`.
 const TABLE: &str = include_str!("../../c/meulhaton_refusals.def");
 
 /// A refusal: its number in document 01's table, and an offset into the message where a reader refuses with 7 to 13 or 25 to 27, else 0.
@@ -29,7 +29,7 @@ impl Refusal {
 
 /// The text of a line of the table, if the line is that number's.
 fn text_for(number: u8, line: &'static str) -> Option<&'static str> {
-    let (found, name_and_text) = line.strip_prefix("REFUSAL(")?.split_once(", ")?;
+    let (found, name_and_text) = line.strip_prefix("MEULHATON_REFUSAL(")?.split_once(", ")?;
     let (_, text) = name_and_text.split_once(", ")?;
     let text = text.strip_prefix('"')?.strip_suffix("\")")?;
     (found.parse() == Ok(number)).then_some(text)
