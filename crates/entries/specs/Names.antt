@@ -1,4 +1,4 @@
--- The names of the known entries: document 01, "Requests". Assumes nothing.
+-- The names of the known entries, and the words of mode: document 01, "Requests". Assumes nothing.
 use Prim.Native.Nat.{ℕ}
 use mathlib.Core.List.{List, [], _∷_}
 
@@ -40,3 +40,10 @@ n = 0x6E ∷ []
 
 abbrev pub qid : List ℕ
 qid = 0x71 ∷ 0x69 ∷ 0x64 ∷ []
+
+-- "mode "r" or "w""
+abbrev pub read : List ℕ
+read = 0x72 ∷ []
+
+abbrev pub write : List ℕ
+write = 0x77 ∷ []

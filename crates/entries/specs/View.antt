@@ -1,10 +1,12 @@
 -- The code's view of a value, as far as a request looks at it. What requests mean is said of the values themselves. Assumes nothing.
 use Prim.Native.Nat.{ℕ}
 use mathlib.Core.Bool.{Bool, true, false, cond}
-use mathlib.Core.List.{List, [], _∷_}
+use mathlib.Core.List.{List}
 use lib.ListN.{length}
 use Rattle.markers.specs.Value.{Value, null, boolean, integer, float, bytes, string, list, dictionary, structure, Items, no-items, item}
+use Rattle.markers.specs.ByKind.{onString}
 use Rattle.slices.specs.Equality.{same}
+use Rattle.entries.specs.Names as Name
 use Rattle.entries.specs.Lookup.{Held, absent, held}
 use Rattle.entries.specs.declared.view.Span.{Span}
 use Rattle.entries.specs.declared.view.Place.{Place}
@@ -16,15 +18,7 @@ use Rattle.entries.specs.declared.view.View.the-variants as As
 use Rattle.entries.specs.declared.view.Entry.{Entry}
 
 abbrev pub isString : Value → Bool
-isString null = false
-isString (boolean b) = false
-isString (integer z) = false
-isString (float bits) = false
-isString (bytes start content) = false
-isString (string start content) = true
-isString (list vs) = false
-isString (dictionary es) = false
-isString (structure tag vs) = false
+isString = onString (λ start content. true) false
 
 -- "in a List, the first wrong item's" marker, where it is to be a List of Strings
 unfoldable pub wrongIn : Items → Place
@@ -33,7 +27,7 @@ wrongIn (item at v vs) = cond (isString v) (wrongIn vs) (P.At at)
 
 -- "r" or "w"
 abbrev pub modeNamed : List ℕ → Mode
-modeNamed content = cond (same content (0x72 ∷ [])) M.Read (cond (same content (0x77 ∷ [])) M.Write M.Absent)
+modeNamed content = cond (same content Name.read) M.Read (cond (same content Name.write) M.Write M.Absent)
 
 -- n bytes from p on
 abbrev pub span : ℕ → ℕ → Span

@@ -1,3 +1,4 @@
+pub mod ByKind
 pub mod Markers
 pub mod Extents
 pub mod Offsets

@@ -1,4 +1,5 @@
 pub mod Value
+pub mod ByKind
 pub mod Marker
 pub mod Extents
 pub mod Private

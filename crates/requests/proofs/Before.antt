@@ -4,12 +4,13 @@ use mathlib.Core.Bool.{Bool, true, false, cond}
 use mathlib.Core.List.{List}
 use Prim.Native.Nat.{ℕ}
 use Rattle.refusal.specs.Answer.{Answer, result, refused, andThen}
-use Rattle.markers.specs.Value.{Value, null, boolean, integer, float, bytes, string, list, dictionary, structure, Items, no-items, item, Entries, no-entries, entry}
+use Rattle.markers.specs.Value.{Value, Items, no-items, item, Entries, no-entries, entry}
+use Rattle.markers.proofs.ByKind.{of-each}
 use Rattle.slices.specs.Equality.{same}
 use Rattle.entries.specs.Numbering.{nameOf}
 use Rattle.entries.specs.Lookup.{held, under}
 use Rattle.entries.specs.View.{seen}
-use Rattle.requests.specs.Kinds.{onDictionary}
+use Rattle.markers.specs.ByKind.{onDictionary}
 use Rattle.requests.specs.Checks.{stringAt, dictionaryAt}
 use Rattle.requests.specs.Requests.{one, three, extra, run, transaction, tagged, requestIn}
 use Rattle.requests.specs.Private.Views.{stringSeen, requiredText, asksSeen, asks}
@@ -34,15 +35,9 @@ under-seen (entry at start key place v es) name = by (same key name) (under-seen
 -- ---- fields
 -- a Dictionary's entries, by what each meaning makes of them
 entries-of : {A : Type 0} (at : ℕ) (v : Value) (f g : Entries → Answer A) → ((es : Entries) → f es ≡ g es) → Before.entriesOf at v f ≡ onDictionary g (refused 16 at) v
-entries-of at null f g h = refl
-entries-of at (boolean b) f g h = refl
-entries-of at (integer z) f g h = refl
-entries-of at (float bits) f g h = refl
-entries-of at (bytes start content) f g h = refl
-entries-of at (string start content) f g h = refl
-entries-of at (list vs) f g h = refl
-entries-of at (dictionary es) f g h = h es
-entries-of at (structure tag vs) f g h = refl
+entries-of at v f g h =
+    of-each (λ w. Before.entriesOf at w f ≡ onDictionary g (refused 16 at) w)
+    refl (λ _. refl) (λ _. refl) (λ _. refl) (λ _ _. refl) (λ _ _. refl) (λ _. refl) h (λ _ _. refl) v
 
 -- a request whose one field is its extra
 extra-alike : (k : Kind) (minor : ℕ) (fields : Items) → one (Before.extra (asksSeen sixteen k minor)) fields ≡ one (extra sixteen (asks sixteen k minor)) fields
@@ -54,26 +49,14 @@ extra-alike k minor (item at v (item p w vs)) = refl
 -- RUN: a query, then the parameters
 query-alike : (q : ℕ) (v : Value) (f g : Span → Answer Request) → ((s : Span) → f s ≡ g s)
     → andThen (stringSeen sixteen (seen (held q v))) (λ t. andThen (requiredText sixteen q t) f) ≡ andThen (stringAt sixteen q v) g
-query-alike q null f g h = refl
-query-alike q (boolean b) f g h = refl
-query-alike q (integer z) f g h = refl
-query-alike q (float bits) f g h = refl
-query-alike q (bytes start content) f g h = refl
-query-alike q (string start content) f g h = h _
-query-alike q (list vs) f g h = refl
-query-alike q (dictionary es) f g h = refl
-query-alike q (structure tag vs) f g h = refl
+query-alike q v f g h =
+    of-each (λ w. andThen (stringSeen sixteen (seen (held q w))) (λ t. andThen (requiredText sixteen q t) f) ≡ andThen (stringAt sixteen q w) g)
+    refl (λ _. refl) (λ _. refl) (λ _. refl) (λ _ _. refl) (λ start content. h _) (λ _. refl) (λ _. refl) (λ _ _. refl) v
 
 parameters-alike : (p : ℕ) (v : Value) (x : Answer Request) (g : ℕ → Answer Request) → x ≡ g p → Before.entriesOf p v (λ _. x) ≡ andThen (dictionaryAt sixteen p v) g
-parameters-alike p null x g h = refl
-parameters-alike p (boolean b) x g h = refl
-parameters-alike p (integer z) x g h = refl
-parameters-alike p (float bits) x g h = refl
-parameters-alike p (bytes start content) x g h = refl
-parameters-alike p (string start content) x g h = refl
-parameters-alike p (list vs) x g h = refl
-parameters-alike p (dictionary es) x g h = h
-parameters-alike p (structure tag vs) x g h = refl
+parameters-alike p v x g h =
+    of-each (λ w. Before.entriesOf p w (λ _. x) ≡ andThen (dictionaryAt sixteen p w) g)
+    refl (λ _. refl) (λ _. refl) (λ _. refl) (λ _ _. refl) (λ _ _. refl) (λ _. refl) (λ _. h) (λ _ _. refl) v
 
 run-alike : (q : ℕ) (query : Value) (p : ℕ) (parameters : Value) (x : ℕ) (more : Value) → Before.run q query p parameters x more ≡ run sixteen q query p parameters x more
 unfolding Before.run run
@@ -96,12 +79,6 @@ tagged-alike minor given fields =
     rw (extra-alike K.Hello minor fields, three-alike fields, extra-alike K.Begin minor fields, extra-alike K.Discard minor fields, extra-alike K.Pull minor fields)
 
 pub same-request : (minor : ℕ) (v : Value) → requestIn sixteen minor v ≡ Before.requestIn minor v
-same-request minor null = refl
-same-request minor (boolean b) = refl
-same-request minor (integer z) = refl
-same-request minor (float bits) = refl
-same-request minor (bytes start content) = refl
-same-request minor (string start content) = refl
-same-request minor (list vs) = refl
-same-request minor (dictionary es) = refl
-same-request minor (structure given fields) = sym (tagged-alike minor given fields)
+same-request minor v =
+    of-each (λ w. requestIn sixteen minor w ≡ Before.requestIn minor w)
+    refl (λ _. refl) (λ _. refl) (λ _. refl) (λ _ _. refl) (λ _ _. refl) (λ _. refl) (λ _. refl) (λ given fields. sym (tagged-alike minor given fields)) v

@@ -23,7 +23,7 @@ use Rattle.values.proofs.Steps.{ValueTells, value-tells, entries-count}
 use Rattle.entries.specs.Numbering.{nameOf}
 use Rattle.entries.specs.Lookup.{under}
 use Rattle.entries.specs.View.{span, seen}
-use Rattle.requests.specs.Kinds.{onDictionary}
+use Rattle.markers.specs.ByKind.{onDictionary}
 use Rattle.requests.specs.Checks.{complaints, wrongKind, stringAt, dictionaryAt}
 use Rattle.requests.specs.Requests.{transaction, extra, run, none, one, three}
 use Rattle.requests.specs.Private.Views.{asksSeen, transactionSeen, asks}
@@ -37,6 +37,7 @@ use Rattle.requests.specs.declared.request.Request.{Request}
 use Rattle.requests.specs.declared.request.Request.the-variants as R
 use Rattle.requests.specs.declared.extra.Kind.{Kind}
 use Rattle.entries.specs.declared.Entries.the-variants as E
+use Rattle.markers.proofs.ByKind.{of-each}
 use Rattle.entries.proofs.Trees.{textOf, text-there}
 use Rattle.entries.proofs.Lookups.{noted-there}
 use Rattle.requests.proofs.Viewed.{asks-seen, transaction-seen}
@@ -235,15 +236,9 @@ module _ (s : List ℕ) (at n : ℕ) (vs : Items) (fields : Fields s at n vs) (a
 -- a query that is a String, or any other
 query-is : (at : ℕ) (v : Value) (f : Span → Answer Request)
     → onText (textOf v) (wrongKind complaints at) f ≡ andThen (stringAt complaints at v) f
-query-is at null f = refl
-query-is at (boolean b) f = refl
-query-is at (integer z) f = refl
-query-is at (float bits) f = refl
-query-is at (bytes start content) f = refl
-query-is at (string start content) f = refl
-query-is at (list vs) f = refl
-query-is at (dictionary es) f = refl
-query-is at (structure tag vs) f = refl
+query-is at v f =
+    of-each (λ w. onText (textOf w) (wrongKind complaints at) f ≡ andThen (stringAt complaints at w) f)
+    refl (λ _. refl) (λ _. refl) (λ _. refl) (λ _ _. refl) (λ _ _. refl) (λ _. refl) (λ _. refl) (λ _ _. refl) v
 
 -- a String ends where its content does
 query-ends : (s : List ℕ) (d at : ℕ) (v : Value) (end : ℕ) (c : Span) → PartsLie s d v end → T.At c ≡ textOf v → end ≡ c .start + c .size

@@ -2,7 +2,7 @@
 -- them. Assumes nothing.
 use mathlib.Core.Path.{_≡_, refl, ap, _∙_}
 use mathlib.Core.Bool.{Bool, true, false, cond, _&&_, _||_, and-eq-true-iff}
-use mathlib.Core.List.{List, [], _∷_}
+use mathlib.Core.List.{List}
 use Prim.Native.Nat.{ℕ, _≤_}
 use native.Mathlib.Omega.{arith}
 use lib.Dec.{leb, eqb}
@@ -10,14 +10,15 @@ use lib.IntN.{ℤ, negsuc}
 use borrow.Author.Tests.{eqb-true, leb-true, lt-leb}
 use Rattle.refusal.specs.Answer.{Answer, result, refused, andThen, among, Refuses}
 use Rattle.slices.specs.Equality.{same}
-use Rattle.markers.specs.Value.{Value, null, boolean, integer, float, bytes, string, list, dictionary, structure, Items, no-items, item, Entries}
+use Rattle.markers.specs.Value.{Value, Items, no-items, item, Entries}
 use Rattle.values.specs.Decode.{decode}
 use Rattle.values.specs.Places.{valueFault}
 use Rattle.values.proofs.Places.{places as values-places}
+use Rattle.markers.proofs.ByKind.{natural}
 use Rattle.bolt.specs.Ranges.{minusOneOr}
 use Rattle.entries.specs.Names as Name
 use Rattle.entries.specs.Lookup.{Held, absent, held, under, Lookup}
-use Rattle.requests.specs.Kinds.{byKind, onNull, onInteger, onString, onList, onDictionary, onStructure}
+use Rattle.markers.specs.ByKind.{onNull, onInteger, onString, onList, onDictionary, onStructure}
 use Rattle.requests.specs.Checks.{Complaints, complaints, nonNegative, stringAt, integerAt, modeAt, dictionaryAt, stringsIn, listOfStringsAt, required, optional}
 use Rattle.requests.specs.Requests.{none, one, three, text, listOfStrings, hello, transaction, batch, begin, discard, pull, extra, run, tagged, requestIn}
 use Rattle.requests.specs.Requests as Meaning
@@ -32,20 +33,7 @@ use Rattle.requests.specs.declared.request.Request.{Request}
 use Rattle.requests.specs.declared.request.Request.the-variants as R
 use Rattle.requests.proofs.Before.{same-request}
 
--- ---- a value by its kind: what is done to each outcome may be done to them all
-natural : {A B : Type 0} (r : A → B) (n : A) (b : Bool → A) (i : ℤ → A) (f : ℕ → A) (y s : ℕ → List ℕ → A) (l : Items → A) (d : Entries → A) (t : ℕ → Items → A) (v : Value)
-    → r (byKind n b i f y s l d t v)
-    ≡ byKind (r n) (λ x. r (b x)) (λ z. r (i z)) (λ x. r (f x)) (λ p c. r (y p c)) (λ p c. r (s p c)) (λ vs. r (l vs)) (λ es. r (d es)) (λ x vs. r (t x vs)) v
-natural r n b i f y s l d t null = refl
-natural r n b i f y s l d t (boolean x) = refl
-natural r n b i f y s l d t (integer z) = refl
-natural r n b i f y s l d t (float bits) = refl
-natural r n b i f y s l d t (bytes start content) = refl
-natural r n b i f y s l d t (string start content) = refl
-natural r n b i f y s l d t (list vs) = refl
-natural r n b i f y s l d t (dictionary es) = refl
-natural r n b i f y s l d t (structure tag vs) = refl
-
+-- ---- checks one after the other, choices, and values by their kinds
 module _ (f : ℕ → ℕ) where
   chosen : {A : Type 0} (b : Bool) (x y x′ y′ : Answer A) → renumbered f x ≡ x′ → renumbered f y ≡ y′ → renumbered f (cond b x y) ≡ cond b x′ y′
   chosen true x y x′ y′ p q = p
@@ -83,88 +71,88 @@ module _ (f : ℕ → ℕ) where
     on-structure g g′ h =
         natural (renumbered f) e (λ _. e) (λ _. e) (λ _. e) (λ _ _. e) (λ _ _. e) (λ _. e) (λ _. e) g v ∙ (λ i. onStructure (λ tag vs. h tag vs i) (else i) v)
 
-  module _ (no : Complaints) where
+  module _ (c : Complaints) where
     -- ---- what a value may be
-    string-at : (at : ℕ) (v : Value) → renumbered f (stringAt no at v) ≡ stringAt (renamed f no) at v
+    string-at : (at : ℕ) (v : Value) → renumbered f (stringAt c at v) ≡ stringAt (renamed f c) at v
     string-at at v = on-string _ _ refl v _ _ (λ start content. refl)
 
-    integer-at : (range : ℤ → Bool) (at : ℕ) (v : Value) → renumbered f (integerAt no range at v) ≡ integerAt (renamed f no) range at v
+    integer-at : (range : ℤ → Bool) (at : ℕ) (v : Value) → renumbered f (integerAt c range at v) ≡ integerAt (renamed f c) range at v
     integer-at range at v = on-integer _ _ refl v _ _ (λ z. chosen (range z) _ _ _ _ refl refl)
 
-    mode-at : (at : ℕ) (v : Value) → renumbered f (modeAt no at v) ≡ modeAt (renamed f no) at v
+    mode-at : (at : ℕ) (v : Value) → renumbered f (modeAt c at v) ≡ modeAt (renamed f c) at v
     mode-at at v =
         on-string _ _ refl v _ _ (λ start content.
-        chosen (same content (0x72 ∷ [])) _ _ _ _ refl (chosen (same content (0x77 ∷ [])) _ _ _ _ refl refl))
+        chosen (same content Name.read) _ _ _ _ refl (chosen (same content Name.write) _ _ _ _ refl refl))
 
-    dictionary-at : (at : ℕ) (v : Value) → renumbered f (dictionaryAt no at v) ≡ dictionaryAt (renamed f no) at v
+    dictionary-at : (at : ℕ) (v : Value) → renumbered f (dictionaryAt c at v) ≡ dictionaryAt (renamed f c) at v
     dictionary-at at v = on-dictionary _ _ refl v _ _ (λ es. refl)
 
-    strings-in : (at : ℕ) (vs : Items) → renumbered f (stringsIn no at vs) ≡ stringsIn (renamed f no) at vs
+    strings-in : (at : ℕ) (vs : Items) → renumbered f (stringsIn c at vs) ≡ stringsIn (renamed f c) at vs
     unfolding stringsIn
     strings-in at no-items = refl
     strings-in at (item place v vs) = on-string _ _ refl v _ _ (λ start content. strings-in at vs)
 
-    list-at : (at : ℕ) (v : Value) → renumbered f (listOfStringsAt no at v) ≡ listOfStringsAt (renamed f no) at v
+    list-at : (at : ℕ) (v : Value) → renumbered f (listOfStringsAt c at v) ≡ listOfStringsAt (renamed f c) at v
     list-at at v = on-list _ _ refl v _ _ (strings-in at)
 
     -- ---- entries, by what checks them
-    module _ {A : Type 0} (check check′ : ℕ → Value → Answer A) (c : (at : ℕ) (v : Value) → renumbered f (check at v) ≡ check′ at v) where
-      required-in : (at : ℕ) (h : Held) → renumbered f (required no check at h) ≡ required (renamed f no) check′ at h
+    module _ {A : Type 0} (check check′ : ℕ → Value → Answer A) (alike : (at : ℕ) (v : Value) → renumbered f (check at v) ≡ check′ at v) where
+      required-in : (at : ℕ) (h : Held) → renumbered f (required c check at h) ≡ required (renamed f c) check′ at h
       required-in at absent = refl
-      required-in at (held place v) = on-null _ _ (c place v) v _ _ refl
+      required-in at (held place v) = on-null _ _ (alike place v) v _ _ refl
 
       optional-in : {B : Type 0} (n : B) (some : A → B) (h : Held) → renumbered f (optional check n some h) ≡ optional check′ n some h
       optional-in n some absent = refl
-      optional-in n some (held place v) = on-null _ _ (and-then (check place v) _ _ _ (c place v) (λ a. refl)) v _ _ refl
+      optional-in n some (held place v) = on-null _ _ (and-then (check place v) _ _ _ (alike place v) (λ a. refl)) v _ _ refl
 
     -- ---- the extra of each request
-    hello-in : (minor at : ℕ) (e : Lookup) → renumbered f (hello no minor at e) ≡ hello (renamed f no) minor at e
+    hello-in : (minor at : ℕ) (e : Lookup) → renumbered f (hello c minor at e) ≡ hello (renamed f c) minor at e
     unfolding hello
     hello-in minor at e =
-        and-then (required no (stringAt no) at (e Name.user-agent)) _ _ _ (required-in _ _ string-at at (e Name.user-agent)) (λ agent.
-        and-then (text no (e Name.scheme)) _ _ _ (optional-in _ _ string-at T.Absent T.At (e Name.scheme)) (λ scheme.
-        and-then (text no (e Name.principal)) _ _ _ (optional-in _ _ string-at T.Absent T.At (e Name.principal)) (λ principal.
-        and-then (text no (e Name.credentials)) _ _ _ (optional-in _ _ string-at T.Absent T.At (e Name.credentials)) (λ credentials.
-        and-then (Meaning.dictionary no (cond (leb 1 minor) (e Name.routing) absent)) _ _ _
+        and-then (required c (stringAt c) at (e Name.user-agent)) _ _ _ (required-in _ _ string-at at (e Name.user-agent)) (λ agent.
+        and-then (text c (e Name.scheme)) _ _ _ (optional-in _ _ string-at T.Absent T.At (e Name.scheme)) (λ scheme.
+        and-then (text c (e Name.principal)) _ _ _ (optional-in _ _ string-at T.Absent T.At (e Name.principal)) (λ principal.
+        and-then (text c (e Name.credentials)) _ _ _ (optional-in _ _ string-at T.Absent T.At (e Name.credentials)) (λ credentials.
+        and-then (Meaning.dictionary c (cond (leb 1 minor) (e Name.routing) absent)) _ _ _
         (optional-in _ _ dictionary-at P.Absent P.At (cond (leb 1 minor) (e Name.routing) absent)) (λ routing. refl)))))
 
-    transaction-in : (e : Lookup) → renumbered f (transaction no e) ≡ transaction (renamed f no) e
+    transaction-in : (e : Lookup) → renumbered f (transaction c e) ≡ transaction (renamed f c) e
     unfolding transaction
     transaction-in e =
-        and-then (listOfStrings no (e Name.bookmarks)) _ _ _ (optional-in _ _ list-at P.Absent P.At (e Name.bookmarks)) (λ bookmarks.
-        and-then (optional (integerAt no nonNegative) N.Absent N.Is (e Name.tx-timeout)) _ _ _ (optional-in _ _ (integer-at nonNegative) N.Absent N.Is (e Name.tx-timeout)) (λ timeout.
-        and-then (Meaning.dictionary no (e Name.tx-metadata)) _ _ _ (optional-in _ _ dictionary-at P.Absent P.At (e Name.tx-metadata)) (λ metadata.
-        and-then (optional (modeAt no) M.Absent (λ mode. mode) (e Name.mode)) _ _ _ (optional-in _ _ mode-at M.Absent (λ mode. mode) (e Name.mode)) (λ access.
-        and-then (text no (e Name.db)) _ _ _ (optional-in _ _ string-at T.Absent T.At (e Name.db)) (λ db. refl)))))
+        and-then (listOfStrings c (e Name.bookmarks)) _ _ _ (optional-in _ _ list-at P.Absent P.At (e Name.bookmarks)) (λ bookmarks.
+        and-then (optional (integerAt c nonNegative) N.Absent N.Is (e Name.tx-timeout)) _ _ _ (optional-in _ _ (integer-at nonNegative) N.Absent N.Is (e Name.tx-timeout)) (λ timeout.
+        and-then (Meaning.dictionary c (e Name.tx-metadata)) _ _ _ (optional-in _ _ dictionary-at P.Absent P.At (e Name.tx-metadata)) (λ metadata.
+        and-then (optional (modeAt c) M.Absent (λ mode. mode) (e Name.mode)) _ _ _ (optional-in _ _ mode-at M.Absent (λ mode. mode) (e Name.mode)) (λ access.
+        and-then (text c (e Name.db)) _ _ _ (optional-in _ _ string-at T.Absent T.At (e Name.db)) (λ db. refl)))))
 
-    batch-in : (at : ℕ) (e : Lookup) → renumbered f (batch no at e) ≡ batch (renamed f no) at e
+    batch-in : (at : ℕ) (e : Lookup) → renumbered f (batch c at e) ≡ batch (renamed f c) at e
     unfolding batch
     batch-in at e =
-        and-then (required no (integerAt no (minusOneOr 1)) at (e Name.n)) _ _ _ (required-in _ _ (integer-at (minusOneOr 1)) at (e Name.n)) (λ n.
-        and-then (optional (integerAt no (minusOneOr 0)) (negsuc 0) (λ z. z) (e Name.qid)) _ _ _ (optional-in _ _ (integer-at (minusOneOr 0)) (negsuc 0) (λ z. z) (e Name.qid)) (λ qid. refl))
+        and-then (required c (integerAt c (minusOneOr 1)) at (e Name.n)) _ _ _ (required-in _ _ (integer-at (minusOneOr 1)) at (e Name.n)) (λ n.
+        and-then (optional (integerAt c (minusOneOr 0)) (negsuc 0) (λ z. z) (e Name.qid)) _ _ _ (optional-in _ _ (integer-at (minusOneOr 0)) (negsuc 0) (λ z. z) (e Name.qid)) (λ qid. refl))
 
-    begin-in : (at : ℕ) (e : Lookup) → renumbered f (begin no at e) ≡ begin (renamed f no) at e
-    begin-in at e = and-then (transaction no e) _ _ _ (transaction-in e) (λ t. refl)
+    begin-in : (at : ℕ) (e : Lookup) → renumbered f (begin c at e) ≡ begin (renamed f c) at e
+    begin-in at e = and-then (transaction c e) _ _ _ (transaction-in e) (λ t. refl)
 
-    discard-in : (at : ℕ) (e : Lookup) → renumbered f (discard no at e) ≡ discard (renamed f no) at e
-    discard-in at e = and-then (batch no at e) _ _ _ (batch-in at e) (λ b. refl)
+    discard-in : (at : ℕ) (e : Lookup) → renumbered f (discard c at e) ≡ discard (renamed f c) at e
+    discard-in at e = and-then (batch c at e) _ _ _ (batch-in at e) (λ b. refl)
 
-    pull-in : (at : ℕ) (e : Lookup) → renumbered f (pull no at e) ≡ pull (renamed f no) at e
-    pull-in at e = and-then (batch no at e) _ _ _ (batch-in at e) (λ b. refl)
+    pull-in : (at : ℕ) (e : Lookup) → renumbered f (pull c at e) ≡ pull (renamed f c) at e
+    pull-in at e = and-then (batch c at e) _ _ _ (batch-in at e) (λ b. refl)
 
     -- ---- fields
     extra-in : (g g′ : ℕ → Lookup → Answer Request) → ((at : ℕ) (e : Lookup) → renumbered f (g at e) ≡ g′ at e)
-        → (at : ℕ) (v : Value) → renumbered f (extra no g at v) ≡ extra (renamed f no) g′ at v
+        → (at : ℕ) (v : Value) → renumbered f (extra c g at v) ≡ extra (renamed f c) g′ at v
     extra-in g g′ h at v = on-dictionary _ _ refl v _ _ (λ es. h at (under es))
 
     run-in : (q : ℕ) (query : Value) (p : ℕ) (parameters : Value) (x : ℕ) (more : Value)
-        → renumbered f (run no q query p parameters x more) ≡ run (renamed f no) q query p parameters x more
+        → renumbered f (run c q query p parameters x more) ≡ run (renamed f c) q query p parameters x more
     unfolding run
     run-in q query p parameters x more =
-        and-then (stringAt no q query) _ _ _ (string-at q query) (λ text.
-        and-then (dictionaryAt no p parameters) _ _ _ (dictionary-at p parameters) (λ place.
-        extra-in (λ at e. andThen (transaction no e) (λ t. result (R.Run text place t))) _
-        (λ at e. and-then (transaction no e) _ (λ t. result (R.Run text place t)) _ (transaction-in e) (λ t. refl)) x more))
+        and-then (stringAt c q query) _ _ _ (string-at q query) (λ text.
+        and-then (dictionaryAt c p parameters) _ _ _ (dictionary-at p parameters) (λ place.
+        extra-in (λ at e. andThen (transaction c e) (λ t. result (R.Run text place t))) _
+        (λ at e. and-then (transaction c e) _ (λ t. result (R.Run text place t)) _ (transaction-in e) (λ t. refl)) x more))
 
     module _ (fourteen : f 14 ≡ 14) (fifteen : f 15 ≡ 15) where
       count : _≡_ {A = Answer Request} (refused (f 15) 0) (refused 15 0)
@@ -178,26 +166,26 @@ module _ (f : ℕ → ℕ) where
       one-in g g′ h no-items = count
       one-in g g′ h (item at v vs) = none-in _ _ (h at v) vs
 
-      three-in : (vs : Items) → renumbered f (three (run no) vs) ≡ three (run (renamed f no)) vs
+      three-in : (vs : Items) → renumbered f (three (run c) vs) ≡ three (run (renamed f c)) vs
       three-in no-items = count
       three-in (item q query no-items) = count
       three-in (item q query (item p parameters vs)) = one-in _ _ (run-in q query p parameters) vs
 
       -- ---- requests
-      tagged-in : (minor given : ℕ) (fields : Items) → renumbered f (tagged no minor given fields) ≡ tagged (renamed f no) minor given fields
+      tagged-in : (minor given : ℕ) (fields : Items) → renumbered f (tagged c minor given fields) ≡ tagged (renamed f c) minor given fields
       unfolding tagged
       tagged-in minor given fields =
-          chosen (eqb given 0x01) _ _ _ _ (one-in _ _ (extra-in (hello no minor) _ (hello-in minor)) fields)
+          chosen (eqb given 0x01) _ _ _ _ (one-in _ _ (extra-in (hello c minor) _ (hello-in minor)) fields)
           (chosen (eqb given 0x02) _ _ _ _ (none-in _ _ refl fields)
           (chosen (eqb given 0x0F) _ _ _ _ (none-in _ _ refl fields)
           (chosen (eqb given 0x10) _ _ _ _ (three-in fields)
-          (chosen (eqb given 0x11) _ _ _ _ (one-in _ _ (extra-in (begin no) _ begin-in) fields)
+          (chosen (eqb given 0x11) _ _ _ _ (one-in _ _ (extra-in (begin c) _ begin-in) fields)
           (chosen (eqb given 0x12) _ _ _ _ (none-in _ _ refl fields)
           (chosen (eqb given 0x13) _ _ _ _ (none-in _ _ refl fields)
-          (chosen (eqb given 0x2F) _ _ _ _ (one-in _ _ (extra-in (discard no) _ discard-in) fields)
-          (chosen (eqb given 0x3F) _ _ _ _ (one-in _ _ (extra-in (pull no) _ pull-in) fields) (ap (λ (number : ℕ). refused number 0) fourteen)))))))))
+          (chosen (eqb given 0x2F) _ _ _ _ (one-in _ _ (extra-in (discard c) _ discard-in) fields)
+          (chosen (eqb given 0x3F) _ _ _ _ (one-in _ _ (extra-in (pull c) _ pull-in) fields) (ap (λ (number : ℕ). refused number 0) fourteen)))))))))
 
-      pub request-in : (minor : ℕ) (v : Value) → renumbered f (requestIn no minor v) ≡ requestIn (renamed f no) minor v
+      pub request-in : (minor : ℕ) (v : Value) → renumbered f (requestIn c minor v) ≡ requestIn (renamed f c) minor v
       request-in minor v = on-structure _ _ (ap (λ (number : ℕ). refused number 0) fourteen) v _ _ (tagged-in minor)
 
 -- ---- of a message: the value reader's numbers are below

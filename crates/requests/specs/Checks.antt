@@ -1,17 +1,17 @@
 -- What a field and an entry may hold, and the complaints: document 01, "Requests"; document 02, request 1. Assumes nothing.
 use Prim.Native.Nat.{ℕ}
 use mathlib.Core.Bool.{Bool, true, false, cond}
-use mathlib.Core.List.{[], _∷_}
 use lib.IntN.{ℤ, pos, negsuc}
 use lib.ListN.{length}
 use Rattle.refusal.specs.Answer.{Answer, result, refused, andThen}
 use Rattle.slices.specs.Equality.{same}
 use Rattle.markers.specs.Value.{Value, Items, no-items, item}
+use Rattle.entries.specs.Names as Name
 use Rattle.entries.specs.Lookup.{Held, absent, held}
 use Rattle.entries.specs.declared.view.Span.{Span}
 use Rattle.entries.specs.declared.view.Mode.{Mode}
 use Rattle.entries.specs.declared.view.Mode.the-variants as M
-use Rattle.requests.specs.Kinds.{onNull, onInteger, onString, onList, onDictionary}
+use Rattle.markers.specs.ByKind.{onNull, onInteger, onString, onList, onDictionary}
 
 -- the number of each complaint: a required entry is absent; a field or an entry is of another kind; a number or word is out of its range
 pub record Complaints : Type 0 where
@@ -29,12 +29,12 @@ nonNegative (pos m) = true
 nonNegative (negsuc m) = false
 
 -- ---- a value and its marker's offset, which is the place where it is not what it has to be; kind comes before range
-module _ (no : Complaints) where
+module _ (c : Complaints) where
   abbrev pub wrongKind : {A : Type 0} → ℕ → Answer A
-  wrongKind at = refused (no .kind) at
+  wrongKind at = refused (c .kind) at
 
   abbrev pub outOfRange : {A : Type 0} → ℕ → Answer A
-  outOfRange at = refused (no .range) at
+  outOfRange at = refused (c .range) at
 
   -- a String: where its content lies
   abbrev pub stringAt : ℕ → Value → Answer Span
@@ -47,7 +47,7 @@ module _ (no : Complaints) where
   -- "r" or "w"
   abbrev pub modeAt : ℕ → Value → Answer Mode
   modeAt at =
-      onString (λ start content. cond (same content (0x72 ∷ [])) (result M.Read) (cond (same content (0x77 ∷ [])) (result M.Write) (outOfRange at)))
+      onString (λ start content. cond (same content Name.read) (result M.Read) (cond (same content Name.write) (result M.Write) (outOfRange at)))
       (wrongKind at)
 
   -- a Dictionary: its marker
@@ -65,8 +65,8 @@ module _ (no : Complaints) where
   -- ---- entries: "a known name with Null counts as absent"
   -- one that is required: where it is absent, the place is the Dictionary's marker
   abbrev pub required : {A : Type 0} → (ℕ → Value → Answer A) → ℕ → Held → Answer A
-  required check at absent = refused (no .missing) at
-  required check at (held place v) = onNull (refused (no .missing) at) (check place v) v
+  required check at absent = refused (c .missing) at
+  required check at (held place v) = onNull (refused (c .missing) at) (check place v) v
 
 -- one that may be absent
 abbrev pub optional : {A B : Type 0} → (ℕ → Value → Answer A) → B → (A → B) → Held → Answer B

@@ -1,4 +1,3 @@
-pub mod Kinds
 pub mod Checks
 pub mod Requests
 pub mod Places

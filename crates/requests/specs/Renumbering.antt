@@ -26,8 +26,8 @@ was number = cond (among 25 27 number) 16 number
 -- of every message, in every version
 pub record Claim : Type 0 where
   -- the answer with other numbers is the answer under the table with those numbers, if 1 to 15 keep theirs
-  pub renumbers : (f : ℕ → ℕ) → ((number : ℕ) → number ≤ 15 → f number ≡ number) → (no : Complaints) (minor : ℕ) (s : List ℕ)
-      → renumbered f (requestUnder no minor (decode s)) ≡ requestUnder (renamed f no) minor (decode s)
+  pub renumbers : (f : ℕ → ℕ) → ((number : ℕ) → number ≤ 15 → f number ≡ number) → (c : Complaints) (minor : ℕ) (s : List ℕ)
+      → renumbered f (requestUnder c minor (decode s)) ≡ requestUnder (renamed f c) minor (decode s)
   -- under 16 for all three it is the meaning of before
   pub sixteen : (minor : ℕ) (s : List ℕ) → requestUnder Before.sixteen minor (decode s) ≡ Before.requestOf minor (decode s)
   -- so each old 16 is now one of 25, 26 and 27 at the same place, and nothing else has moved

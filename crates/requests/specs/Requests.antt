@@ -11,7 +11,7 @@ use Rattle.entries.specs.Names as Name
 use Rattle.entries.specs.Lookup.{Held, absent, under, Lookup}
 use Rattle.bolt.specs.Ranges.{minusOneOr}
 use Rattle.bolt.specs.Requests.{tag, HELLO, GOODBYE, RESET, RUN, BEGIN, COMMIT, ROLLBACK, DISCARD, PULL}
-use Rattle.requests.specs.Kinds.{onDictionary, onStructure}
+use Rattle.markers.specs.ByKind.{onDictionary, onStructure}
 use Rattle.requests.specs.Checks.{Complaints, complaints, wrongKind, stringAt, integerAt, modeAt, dictionaryAt, listOfStringsAt, required, optional, nonNegative}
 use Rattle.entries.specs.declared.view.Text.{Text}
 use Rattle.entries.specs.declared.view.Text.the-variants as T
@@ -46,22 +46,22 @@ abbrev pub three : (ℕ → Value → ℕ → Value → ℕ → Value → Answer
 three f no-items = refused 15 0
 three f (item at v vs) = two (f at v) vs
 
-module _ (no : Complaints) where
+module _ (c : Complaints) where
   -- ---- entries that may be absent, by the kind of their value
   abbrev pub text : Held → Answer Text
-  text = optional (stringAt no) T.Absent T.At
+  text = optional (stringAt c) T.Absent T.At
 
   abbrev pub dictionary : Held → Answer Place
-  dictionary = optional (dictionaryAt no) P.Absent P.At
+  dictionary = optional (dictionaryAt c) P.Absent P.At
 
   abbrev pub listOfStrings : Held → Answer Place
-  listOfStrings = optional (listOfStringsAt no) P.Absent P.At
+  listOfStrings = optional (listOfStringsAt c) P.Absent P.At
 
   -- ---- the extra of each request: what it asks of the entry under each name, in checking order; `at` is the Dictionary's marker
   -- "user_agent (required), scheme, principal, credentials, all String; routing Dictionary (from 4.1)"
   unfoldable pub hello : ℕ → ℕ → Lookup → Answer Request
   hello minor at e =
-      andThen (required no (stringAt no) at (e Name.user-agent)) (λ agent.
+      andThen (required c (stringAt c) at (e Name.user-agent)) (λ agent.
       andThen (text (e Name.scheme)) (λ scheme.
       andThen (text (e Name.principal)) (λ principal.
       andThen (text (e Name.credentials)) (λ credentials.
@@ -72,17 +72,17 @@ module _ (no : Complaints) where
   unfoldable pub transaction : Lookup → Answer Transaction
   transaction e =
       andThen (listOfStrings (e Name.bookmarks)) (λ bookmarks.
-      andThen (optional (integerAt no nonNegative) N.Absent N.Is (e Name.tx-timeout)) (λ timeout.
+      andThen (optional (integerAt c nonNegative) N.Absent N.Is (e Name.tx-timeout)) (λ timeout.
       andThen (dictionary (e Name.tx-metadata)) (λ metadata.
-      andThen (optional (modeAt no) M.Absent (λ mode. mode) (e Name.mode)) (λ access.
+      andThen (optional (modeAt c) M.Absent (λ mode. mode) (e Name.mode)) (λ access.
       andThen (text (e Name.db)) (λ db.
       result (record { bookmarks = bookmarks; «tx_timeout» = timeout; «tx_metadata» = metadata; mode = access; db = db }))))))
 
   -- "n required, -1 or at least 1; qid, -1 (also if absent) or at least 0"
   unfoldable pub batch : ℕ → Lookup → Answer Batch
   batch at e =
-      andThen (required no (integerAt no (minusOneOr 1)) at (e Name.n)) (λ n.
-      andThen (optional (integerAt no (minusOneOr 0)) (negsuc 0) (λ qid. qid) (e Name.qid)) (λ qid.
+      andThen (required c (integerAt c (minusOneOr 1)) at (e Name.n)) (λ n.
+      andThen (optional (integerAt c (minusOneOr 0)) (negsuc 0) (λ qid. qid) (e Name.qid)) (λ qid.
       result (record { n = n; qid = qid })))
 
   abbrev pub begin : ℕ → Lookup → Answer Request
@@ -97,13 +97,13 @@ module _ (no : Complaints) where
   -- ---- fields, each with its marker's offset
   -- "extra is a Dictionary"
   abbrev pub extra : (ℕ → Lookup → Answer Request) → ℕ → Value → Answer Request
-  extra f at = onDictionary (λ es. f at (under es)) (wrongKind no at)
+  extra f at = onDictionary (λ es. f at (under es)) (wrongKind c at)
 
   -- "query String, parameters Dictionary, extra"
   unfoldable pub run : ℕ → Value → ℕ → Value → ℕ → Value → Answer Request
   run q query p parameters x more =
-      andThen (stringAt no q query) (λ query.
-      andThen (dictionaryAt no p parameters) (λ parameters.
+      andThen (stringAt c q query) (λ query.
+      andThen (dictionaryAt c p parameters) (λ parameters.
       extra (λ at e. andThen (transaction e) (λ t. result (R.Run query parameters t))) x more))
 
   -- ---- requests

@@ -48,15 +48,15 @@ abbrev pub orMinusOne : Number → ℤ
 orMinusOne N.Absent = negsuc 0
 orMinusOne (N.Is z) = z
 
-module _ (no : Complaints) where
+module _ (c : Complaints) where
   -- a String
   abbrev pub stringAs : ℕ → View → Answer Text
   stringAs place As.Absent = result T.Absent
   stringAs place (As.String s mode) = result (T.At s)
-  stringAs place (As.Integer z) = wrongKind no place
-  stringAs place (As.List item) = wrongKind no place
-  stringAs place As.Dictionary = wrongKind no place
-  stringAs place As.Other = wrongKind no place
+  stringAs place (As.Integer z) = wrongKind c place
+  stringAs place (As.List item) = wrongKind c place
+  stringAs place As.Dictionary = wrongKind c place
+  stringAs place As.Other = wrongKind c place
 
   abbrev pub stringSeen : Entry → Answer Text
   stringSeen e = stringAs (e .place) (e .view)
@@ -64,11 +64,11 @@ module _ (no : Complaints) where
   -- a Dictionary: its marker
   abbrev pub dictionaryAs : ℕ → View → Answer Place
   dictionaryAs place As.Absent = result P.Absent
-  dictionaryAs place (As.String s mode) = wrongKind no place
-  dictionaryAs place (As.Integer z) = wrongKind no place
-  dictionaryAs place (As.List item) = wrongKind no place
+  dictionaryAs place (As.String s mode) = wrongKind c place
+  dictionaryAs place (As.Integer z) = wrongKind c place
+  dictionaryAs place (As.List item) = wrongKind c place
   dictionaryAs place As.Dictionary = result (P.At place)
-  dictionaryAs place As.Other = wrongKind no place
+  dictionaryAs place As.Other = wrongKind c place
 
   abbrev pub dictionarySeen : Entry → Answer Place
   dictionarySeen e = dictionaryAs (e .place) (e .view)
@@ -76,32 +76,32 @@ module _ (no : Complaints) where
   -- a List of Strings: its marker
   abbrev pub unlessItem : ℕ → Place → Answer Place
   unlessItem place P.Absent = result (P.At place)
-  unlessItem place (P.At item) = wrongKind no item
+  unlessItem place (P.At item) = wrongKind c item
 
   abbrev pub listOfStringsAs : ℕ → View → Answer Place
   listOfStringsAs place As.Absent = result P.Absent
-  listOfStringsAs place (As.String s mode) = wrongKind no place
-  listOfStringsAs place (As.Integer z) = wrongKind no place
+  listOfStringsAs place (As.String s mode) = wrongKind c place
+  listOfStringsAs place (As.Integer z) = wrongKind c place
   listOfStringsAs place (As.List item) = unlessItem place item
-  listOfStringsAs place As.Dictionary = wrongKind no place
-  listOfStringsAs place As.Other = wrongKind no place
+  listOfStringsAs place As.Dictionary = wrongKind c place
+  listOfStringsAs place As.Other = wrongKind c place
 
   abbrev pub listOfStringsSeen : Entry → Answer Place
   listOfStringsSeen e = listOfStringsAs (e .place) (e .view)
 
   -- "r" or "w"
   abbrev pub unlessNone : ℕ → Mode → Answer Mode
-  unlessNone place M.Absent = outOfRange no place
+  unlessNone place M.Absent = outOfRange c place
   unlessNone place M.Read = result M.Read
   unlessNone place M.Write = result M.Write
 
   abbrev pub modeAs : ℕ → View → Answer Mode
   modeAs place As.Absent = result M.Absent
   modeAs place (As.String s mode) = unlessNone place mode
-  modeAs place (As.Integer z) = wrongKind no place
-  modeAs place (As.List item) = wrongKind no place
-  modeAs place As.Dictionary = wrongKind no place
-  modeAs place As.Other = wrongKind no place
+  modeAs place (As.Integer z) = wrongKind c place
+  modeAs place (As.List item) = wrongKind c place
+  modeAs place As.Dictionary = wrongKind c place
+  modeAs place As.Other = wrongKind c place
 
   abbrev pub modeSeen : Entry → Answer Mode
   modeSeen e = modeAs (e .place) (e .view)
@@ -109,22 +109,22 @@ module _ (no : Complaints) where
   -- an Integer in a range
   abbrev pub integerAs : (ℤ → Bool) → ℕ → View → Answer Number
   integerAs range place As.Absent = result N.Absent
-  integerAs range place (As.String s mode) = wrongKind no place
-  integerAs range place (As.Integer z) = cond (range z) (result (N.Is z)) (outOfRange no place)
-  integerAs range place (As.List item) = wrongKind no place
-  integerAs range place As.Dictionary = wrongKind no place
-  integerAs range place As.Other = wrongKind no place
+  integerAs range place (As.String s mode) = wrongKind c place
+  integerAs range place (As.Integer z) = cond (range z) (result (N.Is z)) (outOfRange c place)
+  integerAs range place (As.List item) = wrongKind c place
+  integerAs range place As.Dictionary = wrongKind c place
+  integerAs range place As.Other = wrongKind c place
 
   abbrev pub integerSeen : (ℤ → Bool) → Entry → Answer Number
   integerSeen range e = integerAs range (e .place) (e .view)
 
   -- what is required: where it is absent, the place is the Dictionary's marker
   abbrev pub requiredText : ℕ → Text → Answer Span
-  requiredText at T.Absent = refused (no .missing) at
+  requiredText at T.Absent = refused (c .missing) at
   requiredText at (T.At s) = result s
 
   abbrev pub requiredNumber : ℕ → Number → Answer ℤ
-  requiredNumber at N.Absent = refused (no .missing) at
+  requiredNumber at N.Absent = refused (c .missing) at
   requiredNumber at (N.Is z) = result z
 
   -- ---- the extras
@@ -161,7 +161,7 @@ module _ (no : Complaints) where
 
   -- and what they mean
   abbrev pub asks : Kind → ℕ → ℕ → Lookup → Answer Request
-  asks K.Hello minor = hello no minor
-  asks K.Begin minor = begin no
-  asks K.Discard minor = discard no
-  asks K.Pull minor = pull no
+  asks K.Hello minor = hello c minor
+  asks K.Begin minor = begin c
+  asks K.Discard minor = discard c
+  asks K.Pull minor = pull c
