@@ -23,7 +23,7 @@ use Rattle.connection.specs.declared.answers.Summary.{Summary}
 use Rattle.connection.specs.declared.answers.Summary.the-variants as S
 use Rattle.connection.specs.declared.turn.Turn.{Turn}
 use Rattle.connection.specs.declared.turn.Turn.the-variants as U
-use Rattle.connection.specs.Requests.{kindOf, inState, is, inRange, any}
+use Rattle.connection.specs.Requests.{kindOf, inState, isStopped, is, inRange, any}
 use Rattle.bolt.specs.Requests.{RESET}
 use Rattle.connection.specs.Appendix.{newState}
 use Rattle.connection.specs.Table as T
@@ -168,7 +168,7 @@ abbrev Rightly : Table → Call → Answer Done → Type 0
 Rightly t x a = wronglyHanded (record { before = t; call = x; answer = saidBy a }) ≡ false
 
 module _ (t : Table) where
-  rightly-taken : (r : Request) (ws : List Request) (u : Turn) → (isHanded u ≡ true → (inState (t .state) Failed || inState (t .state) Interrupted) ≡ false) → Rightly t T.take (result (taken u t r ws))
+  rightly-taken : (r : Request) (ws : List Request) (u : Turn) → (isHanded u ≡ true → isStopped (t .state) ≡ false) → Rightly t T.take (result (taken u t r ws))
   rightly-taken r ws U.Closes f = refl
   rightly-taken r ws U.Resets f = refl
   rightly-taken r ws U.Ignored f = refl

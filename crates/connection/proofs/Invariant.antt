@@ -17,9 +17,9 @@ use Rattle.connection.specs.declared.turn.Turn.{Turn}
 use Rattle.connection.specs.declared.turn.Turn.the-variants as U
 use Rattle.connection.specs.Requests.{kindOf, inState, inTransaction, is, fetches, asked, named, outOfRange, inRange, any}
 use Rattle.bolt.specs.Requests.{HELLO, RESET, RUN, BEGIN}
-use Rattle.connection.specs.Appendix.{success, last, last-of-several, newState, handsOver, ignores}
-use Rattle.connection.specs.Table.{Open, Table, Call, Done, arrive, take, report, close, start, step, noneOpen, oneMore, oneLess, has, without, isFull, namesOpen, defunct, enqueued, accept, arriveT, turnOf, counted, taken, takeFirst, takeT, response, successStreams, streamsAfter, settled, reported, fitting, reportFirst, reportT, closeT}
-use Rattle.connection.specs.Rules.{waitingRule, numbersRule, distinctBelow, works, isHanded, mayBeInFlight, firstInFlight, countsRule, stateRules, rules}
+use Rattle.connection.specs.Appendix.{success, last, last-of-several, newState, handsOver, works}
+use Rattle.connection.specs.Table.{Open, Table, Call, Done, arrive, take, report, close, start, step, noneOpen, oneMore, oneLess, has, without, isFull, namesOpen, defunct, enqueued, accept, arriveT, ignores, turnOf, counted, taken, takeFirst, takeT, response, successStreams, streamsAfter, settled, reported, fitting, reportFirst, reportT, closeT}
+use Rattle.connection.specs.Rules.{waitingRule, numbersRule, distinctBelow, isHanded, mayBeInFlight, firstInFlight, countsRule, stateRules, rules}
 use Rattle.connection.specs.Claim.{leftBy}
 use Rattle.connection.specs.Private.Parts.{lastState}
 use Rattle.connection.proofs.Bools.{by-test, or-left, or-right, and-left, and-right, and-both, not-yes, not-no, alike-same}

@@ -10,5 +10,6 @@ pub mod Numbers
 pub mod Outcomes
 pub mod Rows
 pub mod Standing
+pub mod Stopped
 pub mod Turns
 pub mod Waiting

@@ -1,17 +1,18 @@
--- A fact of every state, or of every state and kind of request, is one computed test. The facts of 003's rows that the code and the rules
+-- A fact of every state, or of every state and kind of request, is one computed test. The facts of the rows that the code and the rules
 -- rest on. Assumes nothing.
 use mathlib.Core.Path.{_≡_, refl, sym, ap, _∙_}
 use mathlib.Core.Bool.{Bool, true, false, cond, not, _&&_, _||_, Bool·beq}
+use mathlib.Core.List.{List, [], _∷_, _++_}
 use Prim.Native.Nat.{ℕ}
 use lib.Dec.{eqb}
 use borrow.Author.Tests.{eqb-true}
 use Rattle.connection.specs.declared.record.State.{State}
 use Rattle.connection.specs.declared.record.State.the-variants.{Connected, Ready, Streaming, TxReady, TxStreaming, Failed, Interrupted, Defunct}
 use Rattle.connection.specs.declared.record.Request.{Request}
-use Rattle.connection.specs.Requests.{rank, inState, inTransaction, isKind, is, fetching, fetches, kindOf}
+use Rattle.connection.specs.Requests.{rank, inState, inTransaction, isStopped, any, isKind, is, fetching, fetches, kindOf}
 use Rattle.bolt.specs.Requests.{Kind, HELLO, GOODBYE, RESET, RUN, BEGIN, COMMIT, ROLLBACK, DISCARD, PULL}
-use Rattle.connection.specs.Appendix.{Response, success, more, last, last-of-several, failure, ignored, newState, handsOver, ignores, handedSomewhere}
-use Rattle.connection.specs.Rules.{works}
+use Rattle.connection.specs.Appendix.{rows, addedRows, isRow, follow, Response, success, more, last, last-of-several, failure, ignored, newState, handsOver, handedSomewhere, works}
+use Rattle.connection.specs.Table.{ignores}
 use Rattle.connection.specs.Private.Parts.{lastState, failureState}
 use Rattle.connection.proofs.Bools.{and-left, and-right, and-both, not-no, same-alike}
 
@@ -108,22 +109,6 @@ pub hands : (s : State) (k : Kind) → handedIn s k ≡ handsOver s k
 unfolding handsOver allStates allKinds
 hands = agree handedIn handsOver refl
 
--- ---- what is ignored, request by request
-abbrev pub ignoredIn : State → Kind → Bool
-ignoredIn s HELLO = false
-ignoredIn s GOODBYE = false
-ignoredIn s RESET = false
-ignoredIn s RUN = inState s Failed || inState s Interrupted
-ignoredIn s BEGIN = inState s Interrupted
-ignoredIn s COMMIT = inState s Interrupted
-ignoredIn s ROLLBACK = inState s Interrupted
-ignoredIn s DISCARD = inState s Failed || inState s Interrupted
-ignoredIn s PULL = inState s Failed || inState s Interrupted
-
-pub ignored-is : (s : State) (k : Kind) → ignoredIn s k ≡ ignores s k
-unfolding ignores allStates allKinds
-ignored-is = agree ignoredIn ignores refl
-
 -- ---- RUN fetches nothing
 run-fetching : (k : Kind) → not (isKind k RUN && fetching k) ≡ true
 unfolding allKinds
@@ -191,9 +176,9 @@ follows : (h f : State → Kind → Bool) → allKinds (λ (k : Kind). allStates
 follows h f e s k t = sym (ap (λ (b : Bool). not b || f s k) t) ∙ each (λ (s : State) (k : Kind). not (h s k) || f s k) e s k
 
 -- nothing is handed over in FAILED or INTERRUPTED
-pub hands-running : (s : State) (k : Kind) → handsOver s k ≡ true → (inState s Failed || inState s Interrupted) ≡ false
+pub hands-running : (s : State) (k : Kind) → handsOver s k ≡ true → isStopped s ≡ false
 unfolding handsOver allStates allKinds
-hands-running s k h = not-no _ (follows handsOver (λ (s : State) (k : Kind). not (inState s Failed || inState s Interrupted)) refl s k h)
+hands-running s k h = not-no _ (follows handsOver (λ (s : State) (k : Kind). not (isStopped s)) refl s k h)
 
 -- what is handed over is no RESET
 pub hands-calm : (s : State) (k : Kind) → handsOver s k ≡ true → isKind k RESET ≡ false
@@ -238,3 +223,27 @@ rest-streams s k h f e =
     not-no _ (follows (λ (s : State) (k : Kind). handsOver s k && (not (fetching k) && not (isKind k RUN && inTransaction s)))
     (λ (s : State) (k : Kind). not (inState (newState s k success) TxStreaming || inState s TxStreaming)) refl s k
     (and-both (handsOver s k) (not (fetching k) && not (isKind k RUN && inTransaction s)) h (and-both (not (fetching k)) (not (isKind k RUN && inTransaction s)) (ap not f) (ap not e))))
+
+-- ---- what is ignored
+-- work are these six
+abbrev six : List Kind
+six = RUN ∷ BEGIN ∷ COMMIT ∷ ROLLBACK ∷ DISCARD ∷ PULL ∷ []
+
+pub work-six : (k : Kind) → works k ≡ any (isKind k) six
+unfolding allKinds works handedSomewhere handsOver
+work-six k = same-alike (works k) (any (isKind k) six) (each-kind (λ (k : Kind). Bool·beq (works k) (any (isKind k) six)) refl k)
+
+-- the rule and the rows agree
+pub ignored-listed : (s : State) (k : Kind) → ignores s k ≡ any (isRow s k ignored) (rows ++ addedRows)
+unfolding allStates allKinds ignores works handedSomewhere handsOver
+ignored-listed = agree ignores (λ (s : State) (k : Kind). any (isRow s k ignored) (rows ++ addedRows)) refl
+
+pub ignored-stays : (s : State) (k : Kind) → follow s k ignored (rows ++ addedRows) ≡ s
+unfolding allStates allKinds
+ignored-stays s k = agree-state (λ (s : State) (k : Kind). true) (λ (s : State) (k : Kind). follow s k ignored (rows ++ addedRows)) (λ (s : State) (k : Kind). s) refl s k refl
+
+-- a stopped connection is not closed
+pub stopped-live : (s : State) → isStopped s ≡ true → inState s Defunct ≡ false
+unfolding allStates
+stopped-live s e =
+    not-no (inState s Defunct) (sym (ap (λ (b : Bool). not b || not (inState s Defunct)) e) ∙ each-state (λ (s : State). not (isStopped s) || not (inState s Defunct)) refl s)

@@ -12,8 +12,9 @@ use Rattle.connection.specs.declared.record.State.the-variants.{Interrup
 use Rattle.connection.specs.declared.record.Request.{Request}
 use Rattle.connection.specs.declared.record.Connection.{Connection}
 use Rattle.connection.specs.Requests.{inState, kindOf, outOfRange, any}
+use Rattle.connection.specs.Appendix.{works}
 use Rattle.connection.specs.Table.{Open, Table, turnOf}
-use Rattle.connection.specs.Rules.{waitingRule, numbersRule, openRule, resetRule, works, isHanded, mayBeInFlight, firstInFlight, flightRule, countsRule, stateRules, rules}
+use Rattle.connection.specs.Rules.{waitingRule, numbersRule, openRule, resetRule, isHanded, mayBeInFlight, firstInFlight, flightRule, countsRule, stateRules, rules}
 use Rattle.connection.specs.Record.{kept, keepsRules}
 use Rattle.connection.proofs.Bools.{by-test}
 

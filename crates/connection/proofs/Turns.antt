@@ -1,5 +1,5 @@
 -- What becomes of a request whose turn comes, by the tests in its definition. Assumes nothing.
-use mathlib.Core.Path.{_≡_, refl, sym, _∙_}
+use mathlib.Core.Path.{_≡_, refl, sym, ap, _∙_}
 use mathlib.Core.Bool.{Bool, true, false, cond, not, _&&_, _||_, false≢true}
 use Prim.Native.Nat.{_<_}
 use lib.Dec.{leb}
@@ -10,12 +10,16 @@ use Rattle.connection.specs.declared.record.State.the-variants.{Streamin
 use Rattle.connection.specs.declared.record.Request.{Request}
 use Rattle.connection.specs.declared.turn.Turn.{Turn}
 use Rattle.connection.specs.declared.turn.Turn.the-variants.{Closes, Resets, Ignored, Handed, Full, Unknown}
-use Rattle.connection.specs.Requests.{kindOf, inState, inTransaction, is, fetches, asked, named, isLatest}
-use Rattle.bolt.specs.Requests.{RESET, RUN}
-use Rattle.connection.specs.Appendix.{ignores, handsOver}
-use Rattle.connection.specs.Table.{Open, has, isFull, namesOpen, turnOf}
+use Rattle.connection.specs.Requests.{kindOf, inState, inTransaction, isStopped, is, fetches, asked, named, isLatest}
+use Rattle.bolt.specs.Requests.{Kind, RESET, RUN}
+use Rattle.connection.specs.Appendix.{handsOver, works}
+use Rattle.connection.specs.Table.{Open, has, isFull, namesOpen, ignores, turnOf}
 use Rattle.connection.specs.Rules.{isHanded}
 use Rattle.connection.proofs.Bools.{by-test, or-left, or-right}
+
+pub ignores-by : (s : State) (k : Kind) {b : Bool} → isStopped s ≡ b → ignores s k ≡ (b && works k)
+unfolding ignores
+ignores-by s k p = ap (λ (b : Bool). b && works k) p
 
 module _ (s : State) (o : Open) where
   pub full-by : {t a b : Bool} → inTransaction s ≡ t → leb 8 (length (o .numbers)) ≡ a → leb 65536 (o .next) ≡ b → isFull s o ≡ (t && (a || b))

@@ -1,6 +1,6 @@
 -- 003, "Appendix - Bolt Message State Transitions", row by row: the requests that are handed over or ignored in a state, each response, and
--- the state that follows. Assumes nothing.
-use mathlib.Core.Bool.{Bool, cond, _&&_}
+-- the state that follows; and the rows that 000 adds. Assumes nothing.
+use mathlib.Core.Bool.{Bool, cond, not, _&&_}
 use mathlib.Core.List.{List, [], _∷_}
 use Prim.Native.Nat.{ℕ}
 use lib.Dec.{eqb}
@@ -70,6 +70,15 @@ rows =
     ∷ row Interrupted ROLLBACK ignored Interrupted
     ∷ []
 
+-- 000, "Message Exchange": after a failure "the server must ignore all subsequent requests until the connection from the server side is in the
+-- READY state". 003 names three of the six for FAILED; document 02, request 2, adds the others.
+abbrev pub addedRows : List Row
+addedRows =
+    row Failed BEGIN ignored Failed
+    ∷ row Failed COMMIT ignored Failed
+    ∷ row Failed ROLLBACK ignored Failed
+    ∷ []
+
 abbrev pub column : Response → ℕ
 column success = 0
 column more = 1
@@ -94,10 +103,6 @@ follow s k r (x ∷ xs) = cond (isRow s k r x) (newOf x) (follow s k r xs)
 unfoldable pub newState : State → Kind → Response → State
 newState s k r = follow s k r rows
 
--- IGNORED in this state
-unfoldable pub ignores : State → Kind → Bool
-ignores s k = any (isRow s k ignored) rows
-
 -- handed to the engine in this state: what the engine may fail
 unfoldable pub handsOver : State → Kind → Bool
 handsOver s k = any (isRow s k failure) rows
@@ -105,3 +110,7 @@ handsOver s k = any (isRow s k failure) rows
 -- handed to the engine in some state
 unfoldable pub handedSomewhere : Kind → Bool
 handedSomewhere k = any (λ (s : State). handsOver s k) (Connected ∷ Ready ∷ Streaming ∷ TxReady ∷ TxStreaming ∷ Failed ∷ Interrupted ∷ Defunct ∷ [])
+
+-- work, "of a kind that some state hands over, except HELLO": document 01, the standing rules
+unfoldable pub works : Kind → Bool
+works k = handedSomewhere k && not (isKind k HELLO)

@@ -6,12 +6,12 @@ use lib.IntN.{pos, negsuc}
 use Rattle.refusal.specs.Answer.{Answer, result, refused}
 use Rattle.connection.specs.declared.record.State.the-variants.{TxStreaming}
 use Rattle.connection.specs.declared.record.Request.{Request}
-use Rattle.connection.specs.declared.record.Request.the-variants.{Hello, Reset, Run, Begin, Pull}
+use Rattle.connection.specs.declared.record.Request.the-variants.{Hello, Reset, Run, Begin, Commit, Pull}
 use Rattle.connection.specs.declared.answers.Outcome.the-variants.{Success, Failure}
 use Rattle.connection.specs.declared.answers.Failure.the-variants.{StreamsFull, EngineFailed}
 use Rattle.connection.specs.declared.answers.Summary.the-variants as S
-use Rattle.connection.specs.Appendix.{newState, ignores, handsOver}
-use Rattle.connection.specs.Table.{Call, arrive, take, report, Said, answered, start, step, turnOf, isFull, namesOpen, successStreams, successSummary}
+use Rattle.connection.specs.Appendix.{newState, handsOver, handedSomewhere, works}
+use Rattle.connection.specs.Table.{Call, arrive, take, report, Said, closed, answered, start, step, ignores, turnOf, isFull, namesOpen, successStreams, successSummary}
 use Rattle.connection.specs.Claim.{saidBy, runT}
 
 -- what a call answers after some others, from the fresh record
@@ -57,10 +57,29 @@ two-streams = refl
 
 -- "Letting work ahead of a second RESET run"
 two-resets : answers (served Hello ++ (arrive Reset ∷ arrive Run ∷ arrive Reset ∷ take ∷ [])) take ≡ result (answered S.Ignored 3)
-unfolding answers served turnOf isFull namesOpen handsOver ignores newState successStreams successSummary
+unfolding answers served turnOf isFull namesOpen handsOver handedSomewhere works ignores newState successStreams successSummary
 two-resets = refl
 
 -- a HELLO that fails closes, with its summary
 hello-fails : answers (arrive Hello ∷ take ∷ []) (report Failure) ≡ result (answered (S.Failure EngineFailed) 1)
 unfolding answers turnOf isFull namesOpen handsOver ignores newState
 hello-fails = refl
+
+-- document 02, request 2: "Our driver sends BEGIN, RUN, PULL, COMMIT in one go", and the BEGIN fails
+begin-fails : List Call
+begin-fails = served Hello ++ (arrive Begin ∷ arrive Run ∷ arrive (Pull (negsuc 0) (negsuc 0)) ∷ arrive Commit ∷ take ∷ report Failure ∷ [])
+
+-- "the COMMIT closes the connection": not any more
+commit-ignored : answers (begin-fails ++ (take ∷ take ∷ [])) take ≡ result (answered S.Ignored 5)
+unfolding answers served begin-fails turnOf isFull namesOpen handsOver handedSomewhere works ignores newState successStreams successSummary
+commit-ignored = refl
+
+-- "until READY", to which a RESET leads
+begins-again : answers (begin-fails ++ (take ∷ take ∷ take ∷ arrive Reset ∷ take ∷ arrive Begin ∷ take ∷ [])) (report Success) ≡ result (answered S.Success 7)
+unfolding answers served begin-fails turnOf isFull namesOpen handsOver handedSomewhere works ignores newState successStreams successSummary
+begins-again = refl
+
+-- "HELLO there still closes"
+hello-closes : answers (served Hello ++ (arrive Run ∷ arrive Hello ∷ take ∷ report Failure ∷ [])) take ≡ result closed
+unfolding answers served turnOf isFull namesOpen handsOver handedSomewhere works ignores newState successStreams successSummary
+hello-closes = refl

@@ -6,4 +6,5 @@ pub mod Answers
 pub mod Record
 pub mod Private
 pub mod Claim
+pub mod Stopped
 pub mod Cases

@@ -42,6 +42,10 @@ inState s r = eqb (rank s) (rank r)
 abbrev pub inTransaction : State → Bool
 inTransaction s = inState s TxReady || inState s TxStreaming
 
+-- after a failure, and while a RESET waits
+abbrev pub isStopped : State → Bool
+isStopped s = inState s Failed || inState s Interrupted
+
 abbrev pub isKind : Kind → Kind → Bool
 isKind k j = eqb (tag k) (tag j)
 

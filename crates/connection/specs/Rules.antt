@@ -9,9 +9,9 @@ use Rattle.connection.specs.declared.record.State.the-variants.{TxStream
 use Rattle.connection.specs.declared.record.Request.{Request}
 use Rattle.connection.specs.declared.turn.Turn.{Turn}
 use Rattle.connection.specs.declared.turn.Turn.the-variants.{Closes, Resets, Ignored, Handed, Full, Unknown}
-use Rattle.connection.specs.Requests.{kindOf, inState, isKind, is, outOfRange, any}
-use Rattle.bolt.specs.Requests.{Kind, HELLO, RESET}
-use Rattle.connection.specs.Appendix.{handedSomewhere}
+use Rattle.connection.specs.Requests.{kindOf, inState, is, outOfRange, any}
+use Rattle.bolt.specs.Requests.{RESET}
+use Rattle.connection.specs.Appendix.{works}
 use Rattle.connection.specs.Table.{Open, Table, turnOf, has}
 
 -- "waiting at most 32, their n and qid in range"
@@ -34,10 +34,6 @@ openRule s o = Bool·beq (inState s TxStreaming) (leb 1 (length (o .numbers)))
 -- "INTERRUPTED exactly if a RESET waits"
 abbrev pub resetRule : State → List Request → Bool
 resetRule s ws = Bool·beq (inState s Interrupted) (any (is RESET) ws)
-
--- "of a kind that some state hands over, except HELLO"
-unfoldable pub works : Kind → Bool
-works k = handedSomewhere k && not (isKind k HELLO)
 
 abbrev pub isHanded : Turn → Bool
 isHanded Closes = false

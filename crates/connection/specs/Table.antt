@@ -16,9 +16,9 @@ use Rattle.connection.specs.declared.answers.Summary.{Summary}
 use Rattle.connection.specs.declared.answers.Summary.the-variants as S
 use Rattle.connection.specs.declared.turn.Turn.{Turn}
 use Rattle.connection.specs.declared.turn.Turn.the-variants as U
-use Rattle.connection.specs.Requests.{kindOf, inState, inTransaction, is, fetches, inRange, asked, named, isLatest, any}
-use Rattle.bolt.specs.Requests.{RESET, RUN, BEGIN}
-use Rattle.connection.specs.Appendix.{Response, success, more, last, last-of-several, failure, newState, ignores, handsOver}
+use Rattle.connection.specs.Requests.{kindOf, inState, inTransaction, isStopped, is, fetches, inRange, asked, named, isLatest, any}
+use Rattle.bolt.specs.Requests.{Kind, RESET, RUN, BEGIN}
+use Rattle.connection.specs.Appendix.{Response, success, more, last, last-of-several, failure, newState, handsOver, works}
 
 -- ---- what the table keeps
 -- the numbers of the open streams of a transaction, and the next number; the one stream of STREAMING has no number
@@ -114,6 +114,10 @@ arriveT t r =
     (refused 27 0))
 
 -- ---- take
+-- a stopped connection ignores work
+unfoldable pub ignores : State → Kind → Bool
+ignores s k = isStopped s && works k
+
 -- what becomes of a request whose turn comes: anything that is not named closes
 unfoldable pub turnOf : State → Open → Request → Turn
 turnOf s o r =

@@ -13,8 +13,7 @@ use super::turn::Turn;
 ghost use mathlib.Core.Path.{_≡_};
 ghost use mathlib.Core.Bool.{Bool·beq};
 ghost use Prim.Native.Nat.{_≤_};
-ghost use Rattle.connection.specs.Requests.{kindOf};
-ghost use Rattle.connection.specs.Rules.{works, isHanded, mayBeInFlight, openRule, resetRule, flightRule, countsRule, stateRules};
+ghost use Rattle.connection.specs.Rules.{isHanded, mayBeInFlight, openRule, resetRule, flightRule, countsRule, stateRules};
 ghost use Rattle.connection.specs.Record.{joined, openOf, front, kept, keepsRules};
 
 // Whether both hold, or neither.
@@ -25,23 +24,6 @@ fn are_alike(a: bool, b: bool) -> bool
         return b;
     }
     !b
-}
-
-// Whether a request is of a kind that some state hands over, except HELLO.
-fn is_work(request: Request) -> bool
-    ensures { λ r. ⌜ r ≡ works (kindOf request) ⌝ }
-{
-    match request {
-        Request::Hello => false,
-        Request::Goodbye => false,
-        Request::Reset => false,
-        Request::Run => true,
-        Request::Begin => true,
-        Request::Commit => true,
-        Request::Rollback => true,
-        Request::Discard { n: _, qid: _ } => true,
-        Request::Pull { n: _, qid: _ } => true,
-    }
 }
 
 fn is_handed(turn: Turn) -> bool
@@ -63,7 +45,7 @@ fn may_be_in_flight(state: State, streams: Streams, request: Request) -> bool
     ensures { λ r. ⌜ r ≡ mayBeInFlight state (openOf streams) request ⌝ }
 {
     if states::is_in(state, State::Interrupted) {
-        return is_work(request);
+        return turn::is_work(request);
     }
     let turn = turn::turn_of(state, streams, request);
     is_handed(turn)

@@ -3,8 +3,8 @@ use super::record::State;
 use super::record::rank;
 ghost use mathlib.Core.Path.{_≡_};
 ghost use mathlib.Core.Bool.{_||_};
-ghost use Rattle.connection.specs.declared.record.State.the-variants.{Ready, Streaming, TxStreaming, Failed, Interrupted};
-ghost use Rattle.connection.specs.Requests.{inState, inTransaction};
+ghost use Rattle.connection.specs.declared.record.State.the-variants.{Ready, Streaming, TxStreaming};
+ghost use Rattle.connection.specs.Requests.{inState, inTransaction, isStopped};
 
 // Whether two states are the same.
 pub fn is_in(state: State, other: State) -> bool
@@ -43,9 +43,9 @@ pub fn is_streaming(state: State) -> bool
     is_in(state, State::TxStreaming)
 }
 
-// Whether most requests are ignored.
+// Whether a failure or a RESET has stopped the connection.
 pub fn is_stopped(state: State) -> bool
-    ensures { λ r. ⌜ r ≡ (inState state Failed || inState state Interrupted) ⌝ }
+    ensures { λ r. ⌜ r ≡ isStopped state ⌝ }
 {
     if is_in(state, State::Failed) {
         return true;

@@ -1,5 +1,5 @@
-// What becomes of a request whose turn comes: document 01, "Connection record", Take, and the rows of 003's appendix. Whatever no row names
-// closes the connection.
+// What becomes of a request whose turn comes: document 01, "Connection record", Take, and the rows of 003's appendix, with those that document
+// 02, request 2, adds for FAILED. Whatever no row names closes the connection.
 use super::record::Request;
 use super::record::State;
 use super::record::Streams;
@@ -9,8 +9,8 @@ use super::streams;
 ghost use mathlib.Core.Path.{_≡_};
 ghost use Prim.Native.Nat.{_≤_};
 ghost use Rattle.connection.specs.Requests.{kindOf};
-ghost use Rattle.connection.specs.Appendix.{handsOver, ignores};
-ghost use Rattle.connection.specs.Table.{turnOf, isFull, namesOpen};
+ghost use Rattle.connection.specs.Appendix.{handsOver, works};
+ghost use Rattle.connection.specs.Table.{ignores, turnOf, isFull, namesOpen};
 ghost use Rattle.connection.specs.Record.{openOf};
 
 pub enum Turn {
@@ -28,7 +28,7 @@ pub enum Turn {
 }
 
 // Whether a request is handed to the engine in a state.
-pub fn hands_over(state: State, request: Request) -> bool
+fn hands_over(state: State, request: Request) -> bool
     ensures { λ r. ⌜ r ≡ handsOver state (kindOf request) ⌝ }
 {
     match request {
@@ -44,21 +44,28 @@ pub fn hands_over(state: State, request: Request) -> bool
     }
 }
 
-// Whether a request is ignored in a state.
-pub fn is_ignored(state: State, request: Request) -> bool
-    ensures { λ r. ⌜ r ≡ ignores state (kindOf request) ⌝ }
+// Whether a request is of a kind that some state hands over, except HELLO.
+pub fn is_work(request: Request) -> bool
+    ensures { λ r. ⌜ r ≡ works (kindOf request) ⌝ }
 {
     match request {
         Request::Hello => false,
         Request::Goodbye => false,
         Request::Reset => false,
-        Request::Run => states::is_stopped(state),
-        Request::Begin => states::is_in(state, State::Interrupted),
-        Request::Commit => states::is_in(state, State::Interrupted),
-        Request::Rollback => states::is_in(state, State::Interrupted),
-        Request::Discard { n: _, qid: _ } => states::is_stopped(state),
-        Request::Pull { n: _, qid: _ } => states::is_stopped(state),
+        Request::Run => true,
+        Request::Begin => true,
+        Request::Commit => true,
+        Request::Rollback => true,
+        Request::Discard { n: _, qid: _ } => true,
+        Request::Pull { n: _, qid: _ } => true,
     }
+}
+
+// A stopped connection ignores work.
+fn is_ignored(state: State, request: Request) -> bool
+    ensures { λ r. ⌜ r ≡ ignores state (kindOf request) ⌝ }
+{
+    states::is_stopped(state) && is_work(request)
 }
 
 // Whether a RUN in this state can open no stream.

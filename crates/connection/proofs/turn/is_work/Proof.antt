@@ -1,12 +1,11 @@
--- `connection::rules::is_work` meets its contract: in each arm the match told which request it is. Assumes nothing.
+-- `connection::turn::is_work` meets its contract: in each arm the match told which request it is. Assumes nothing.
 use borrow.Author.Needs.{needs}
 use mathlib.Core.Path.{sym, ap}
 use Rattle.connection.specs.declared.record.Request.{Request}
 use Rattle.connection.specs.Requests.{kindOf}
-use Rattle.connection.specs.Appendix.{handsOver, handedSomewhere}
-use Rattle.connection.specs.Rules.{works}
-use Rattle.connection.proofs.rules.is_work.Statement.{statement}
-use Rattle.connection.proofs.rules.is_work.Tie as tie
+use Rattle.connection.specs.Appendix.{handsOver, handedSomewhere, works}
+use Rattle.connection.proofs.turn.is_work.Statement.{statement}
+use Rattle.connection.proofs.turn.is_work.Tie as tie
 
 enum-told : tie.Need-enum-told
 enum-told c = search needs
