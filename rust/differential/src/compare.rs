@@ -21,6 +21,8 @@ pub struct Tally {
     pub refused: BTreeMap<u8, u64>,
     /// By what a call on a record replied.
     pub replied: BTreeMap<&'static str, u64>,
+    /// By the state and the tag of the request whose turn came in it.
+    pub turned: BTreeMap<(u8, u8), u64>,
     /// By the request's tag, and what was wrong in it.
     pub complained: BTreeMap<(u8, Complaint), u64>,
 }
@@ -33,6 +35,9 @@ impl Tally {
         }
         for (name, count) in other.replied {
             *self.replied.entry(name).or_default() += count;
+        }
+        for (turn, count) in other.turned {
+            *self.turned.entry(turn).or_default() += count;
         }
         for (complaint, count) in other.complained {
             *self.complained.entry(complaint).or_default() += count;

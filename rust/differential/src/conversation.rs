@@ -18,6 +18,9 @@ impl<A: Side, B: Side> Comparison<'_, A, B> {
         }
         let unnamed = unnamed(call, &ours);
         let reply = self.equal(|| format!("{call:?} on {before_left:?}"), ours, theirs)?;
+        if let (Some(Reply::Turned(_)), Some(turn)) = (&reply, before_left.turn()) {
+            *self.tally.turned.entry(turn).or_default() += 1;
+        }
         if let Some(name) = reply.as_ref().map(name).or(unnamed) {
             *self.tally.replied.entry(name).or_default() += 1;
         }
@@ -102,8 +105,20 @@ fn move_numbers(random: &mut Random, left: &mut Image, right: &mut Image) {
 }
 
 /// Numbers of states in an image.
-const FAILED: u8 = 5;
+pub const FAILED: u8 = 5;
+const INTERRUPTED: u8 = 6;
 const DEFUNCT: u8 = 7;
+
+/// The requests by their tags.
+const TAGS: [u8; 9] = [0x01, 0x02, RESET, 0x10, 0x11, 0x12, 0x13, 0x2F, 0x3F];
+const RESET: u8 = 0x0F;
+
+/// Every turn that there can be, the state and the request's tag. DEFUNCT has none, and a RESET waits in INTERRUPTED
+/// alone.
+pub fn turns() -> impl Iterator<Item = (u8, u8)> {
+    let turns = (0..DEFUNCT).flat_map(|state| TAGS.map(move |tag| (state, tag)));
+    turns.filter(|&(state, tag)| tag != RESET || state == INTERRUPTED)
+}
 
 fn batch(random: &mut Random, image: &Image) -> Batch {
     let streams = image.streams();

@@ -48,7 +48,15 @@ const COMPLAINTS_LEAST: u64 = 50;
 
 /// What came, and whether everything came that there is.
 fn complete(tally: &Tally) -> bool {
-    every_reply(tally) & every_complaint(tally)
+    every_reply(tally) & every_turn(tally) & every_complaint(tally)
+}
+
+fn every_turn(tally: &Tally) -> bool {
+    let counted: Vec<_> =
+        conversation::turns().map(|turn| (tally.turned.get(&turn).copied().unwrap_or(0), turn)).collect();
+    let (least, (state, tag)) = counted.iter().min().copied().unwrap_or_default();
+    println!("turns: {}, each at least {least} times, as {tag:02X} in state {state}", counted.len());
+    least > 0
 }
 
 fn every_complaint(tally: &Tally) -> bool {
@@ -89,7 +97,9 @@ fn main() -> ExitCode {
 #[cfg(test)]
 mod tests {
     use super::*;
-    use crate::sides::{Asked, Call, Found, Image, Item, Reply};
+    use crate::conversation::FAILED;
+    use crate::sides::{Asked, Call, Found, Image, Item, Reply, RequestImage};
+    use reference::connection::{Kind, Turn};
     use reference::frame::Frame;
     use reference::handshake::Version;
     use reference::{Refusal, Result};
@@ -113,9 +123,38 @@ mod tests {
         NullFieldIsAbsent,
         AbsentAtItsNull,
         ArrivesAsWrongKind,
+        ClosesForCommitInFailed,
+        IgnoresHelloInFailed,
+        HandsOverCommitInFailed,
+        IgnoredBeginSetsNext,
     }
 
     impl Fault {
+        /// A take, where this fault changes it.
+        fn take(self, image: &mut Image) -> Option<Result<Reply>> {
+            let turned = |turn| Some(Ok(Reply::Turned(turn)));
+            match (self, image.turn()?) {
+                (Fault::AlwaysIdle, _) => turned(Turn::Idle),
+                (Fault::ClosesForCommitInFailed, (FAILED, 0x12)) => {
+                    Some(Reference.call(image, Call::Close).map(|_| Reply::Turned(Turn::Closed)))
+                }
+                (Fault::HandsOverCommitInFailed, (FAILED, 0x12)) => {
+                    image.in_flight = 1;
+                    turned(Turn::Handed { kind: Kind::Commit, number: image.sent + 1 })
+                }
+                (Fault::IgnoresHelloInFailed, (FAILED, 0x01)) => {
+                    image.requests[0] = RequestImage::new(Kind::Run);
+                    Some(Reference.call(image, Call::Take))
+                }
+                (Fault::IgnoredBeginSetsNext, (FAILED, 0x11)) => {
+                    let reply = Reference.call(image, Call::Take);
+                    image.next = 0;
+                    Some(reply)
+                }
+                _ => None,
+            }
+        }
+
         /// The refusal of a request as a side with this fault gives it.
         fn refusal(self, message: &[u8], refusal: Refusal) -> Refusal {
             let null = message.iter().skip(refusal.place).position(|&byte| byte == 0xC0);
@@ -195,10 +234,11 @@ mod tests {
         }
 
         fn call(&self, image: &mut Image, call: Call) -> Result<Reply> {
-            if *self == Fault::AlwaysIdle && call == Call::Take {
-                return Ok(Reply::Turned(reference::connection::Turn::Idle));
-            }
             let call = match call {
+                Call::Take => match self.take(image) {
+                    Some(reply) => return reply,
+                    None => call,
+                },
                 Call::Arrive(request) if *self == Fault::BreaksForNoKind && request.kind().is_none() => {
                     return Err(Refusal::new(24));
                 }
@@ -241,6 +281,10 @@ mod tests {
             NullFieldIsAbsent,
             AbsentAtItsNull,
             ArrivesAsWrongKind,
+            ClosesForCommitInFailed,
+            IgnoresHelloInFailed,
+            HandsOverCommitInFailed,
+            IgnoredBeginSetsNext,
         ] {
             assert!(compare(&fault, &Reference, 7, 20).is_err(), "{fault:?}");
         }

@@ -291,6 +291,12 @@ impl Image {
         &self.requests[..self.waiting.min(32) as usize]
     }
 
+    /// The state, and the tag of the request that a take would look at.
+    pub fn turn(&self) -> Option<(u8, u8)> {
+        let first = self.waiting().first()?;
+        (self.in_flight == 0).then_some((self.state, first.kind))
+    }
+
     pub fn streams(&self) -> &[u64] {
         &self.streams[..self.open.min(8) as usize]
     }

@@ -279,8 +279,8 @@ impl Connection {
                 let leads_to = if another { State::Interrupted } else { State::Ready };
                 Decision::Answer { summary: Summary::Success, leads_to }
             }
-            (State::Interrupted, kind) if kind.is_work() => ignored,
-            (State::Failed, Kind::Run | Kind::Pull(_) | Kind::Discard(_)) => ignored,
+            // 000, "Message Exchange": after a failure "the server must ignore all subsequent requests".
+            (State::Failed | State::Interrupted, kind) if kind.is_work() => ignored,
             (State::TxReady | State::TxStreaming, Kind::Run) => {
                 if self.streams().len() == OPEN_MAX || self.next == NEXT_MAX {
                     fails(Failure::StreamFull)
@@ -611,12 +611,61 @@ mod tests {
         assert_eq!(past.take(), Ok(Turn::Idle));
     }
 
+    /// The driver's pipeline of document 02, request 2.
     #[test]
-    fn failed_ignores_only_three() {
-        let mut failed = after(&[Hello, Run, pull(7)]);
-        assert_eq!(failed.state, State::Failed);
-        assert_eq!(serve(&mut failed, PULL), Summary::Ignored);
-        failed.arrive(Commit).unwrap();
-        assert_eq!(failed.take(), Ok(Turn::Closed));
+    fn begin_fails_in_a_pipeline() {
+        let mut connection = after(&[Hello]);
+        for kind in [Begin, Run, PULL, Commit] {
+            connection.arrive(kind).unwrap();
+        }
+        assert_eq!(connection.take(), Ok(Turn::Handed { kind: Begin, number: 2 }));
+        let answer = Answer { number: 2, summary: Summary::Failure(Failure::EngineFailed) };
+        assert_eq!(connection.report(Report::Failure), Ok(answer));
+        for number in 3..=5 {
+            assert_eq!(connection.take(), Ok(Turn::Answered(Answer { number, summary: Summary::Ignored })));
+        }
+        assert_eq!(connection.take(), Ok(Turn::Idle));
+        assert_eq!(connection.state, State::Failed);
+        assert_eq!(serve(&mut connection, Reset), Summary::Success);
+        let summaries = [Begin, Run, PULL, Commit].map(|kind| serve(&mut connection, kind));
+        assert_eq!(summaries, [Summary::Success, Summary::Qid(0), Summary::HasMore(false), Summary::Success]);
+        assert_eq!((connection.state, connection.sent), (State::Ready, 10));
+    }
+
+    /// FAILED, however it was reached.
+    #[test]
+    fn failed_ignores_work() {
+        let fails = |kinds: &[Kind], last: Kind| {
+            let mut connection = after(kinds);
+            connection.arrive(last).unwrap();
+            if matches!(connection.take(), Ok(Turn::Handed { .. })) {
+                connection.report(Report::Failure).unwrap();
+            }
+            connection
+        };
+        let full = [Hello, Begin, Run, Run, Run, Run, Run, Run, Run, Run];
+        for failed in [
+            fails(&[Hello], Run),
+            fails(&[Hello], Begin),
+            fails(&[Hello, Run], PULL),
+            fails(&[Hello, Begin, Run, PULL], Commit),
+            fails(&[Hello, Begin, Run], pull(1)),
+            fails(&full, Run),
+        ] {
+            assert_eq!(failed.state, State::Failed);
+            for kind in [Run, Begin, Commit, Rollback, Kind::Discard(Batch { n: 1, qid: 0 }), PULL] {
+                let mut ignoring = failed;
+                assert_eq!(serve(&mut ignoring, kind), Summary::Ignored);
+                assert_eq!((ignoring.state, ignoring.next), (State::Failed, failed.next));
+            }
+            for kind in [Hello, Goodbye] {
+                let mut closing = failed;
+                closing.arrive(kind).unwrap();
+                assert_eq!(closing.take(), Ok(Turn::Closed));
+            }
+            let mut again = failed;
+            assert_eq!(serve(&mut again, Reset), Summary::Success);
+            assert_eq!((again.state, again.next), (State::Ready, failed.next));
+        }
     }
 }

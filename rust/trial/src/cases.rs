@@ -150,6 +150,11 @@ fn greeted(minor: u8, behind: &[u8]) -> Vec<u8> {
     [handshake(minor), message(HELLO), behind.to_vec()].concat()
 }
 
+/// A transaction that ends in FAILED, with its ninth stream.
+fn failed() -> Vec<u8> {
+    [message(BEGIN), message(RUN).repeat(9)].concat()
+}
+
 /// The run that document 01 has whole.
 fn one_run() -> Vec<u8> {
     [handshake(1), message(HELLO), line(&[0, 0]), message(RUN), message(PULL), message(GOODBYE)].concat()
@@ -189,7 +194,12 @@ fn edges() -> Vec<Vec<u8>> {
         greeted(1, &line(&[0, 0, 0])),
         greeted(1, &longer(&message(RUN), b"00")),
         greeted(1, &message(RUN).repeat(3)),
-        greeted(2, &[message(BEGIN), message(RUN).repeat(9), message(PULL), message(RESET), message(RUN)].concat()),
+        greeted(2, &[failed(), message(PULL), message(RESET), message(RUN)].concat()),
+        greeted(
+            2,
+            &[failed(), [RUN, BEGIN, COMMIT, ROLLBACK, DISCARD, PULL, RESET, RUN].map(message).concat()].concat(),
+        ),
+        greeted(2, &[failed(), message(COMMIT), message(HELLO), message(RUN)].concat()),
         greeted(2, &line(&[0, 0]).repeat(30_000)),
     ]
 }
