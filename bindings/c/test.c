@@ -191,6 +191,32 @@ static void calls(void) {
     unnamed(&connection, MEULHATON_CONNECTION_DEFUNCT, MEULHATON_CONNECTION_DEFUNCT);
 }
 
+/* A request that comes, is handed over and has this outcome. */
+static meulhaton_reply served(meulhaton_connection *connection, uint8_t kind, uint8_t outcome) {
+    HOLDS(meulhaton_arrive(connection, (meulhaton_request){kind, 0, 0}).said == MEULHATON_QUEUED);
+    HOLDS(meulhaton_take(connection).said == MEULHATON_HANDED);
+    return meulhaton_report(connection, (meulhaton_outcome){outcome});
+}
+
+/* A driver sends BEGIN, RUN, PULL and COMMIT in one go, and the engine fails the BEGIN. */
+static void failed_begin(void) {
+    meulhaton_connection connection = meulhaton_fresh();
+    served(&connection, MEULHATON_HELLO, MEULHATON_OUTCOME_SUCCESS);
+    meulhaton_reply reply = served(&connection, MEULHATON_BEGIN, MEULHATON_OUTCOME_FAILURE);
+    HOLDS(reply.said == MEULHATON_ANSWERED && reply.number == 2 && reply.summary.kind == MEULHATON_FAILURE_ENGINE);
+    HOLDS(connection.state == MEULHATON_FAILED);
+    const uint8_t behind[] = {MEULHATON_RUN, MEULHATON_PULL, MEULHATON_COMMIT};
+    for (size_t i = 0; i < sizeof behind; i++) HOLDS(meulhaton_arrive(&connection, (meulhaton_request){behind[i], 1, -1}).said == MEULHATON_QUEUED);
+    for (size_t i = 0; i < sizeof behind; i++) {
+        reply = meulhaton_take(&connection);
+        HOLDS(reply.said == MEULHATON_ANSWERED && reply.number == 3 + i && reply.summary.kind == MEULHATON_IGNORED);
+    }
+    HOLDS(meulhaton_take(&connection).said == MEULHATON_IDLE && connection.state == MEULHATON_FAILED);
+    HOLDS(meulhaton_arrive(&connection, (meulhaton_request){MEULHATON_RESET, 0, 0}).said == MEULHATON_QUEUED);
+    HOLDS(meulhaton_take(&connection).summary.kind == MEULHATON_SUCCESS && connection.state == MEULHATON_READY);
+    HOLDS(served(&connection, MEULHATON_BEGIN, MEULHATON_OUTCOME_SUCCESS).number == 7 && connection.state == MEULHATON_TX_READY);
+}
+
 int main(void) {
     texts();
     wire();
@@ -198,5 +224,6 @@ int main(void) {
     requests();
     wrong_requests();
     calls();
+    failed_begin();
     return failed;
 }

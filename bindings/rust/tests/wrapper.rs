@@ -211,6 +211,27 @@ fn transaction() {
     assert_eq!(c.close(), Err(refused(18, 0)));
 }
 
+/// BEGIN, RUN, PULL and COMMIT in one go, and the BEGIN fails: the rest is ignored, and a RESET leads on.
+#[test]
+fn begin_fails_in_a_pipeline() {
+    let mut c = ready();
+    let pull = Request::Pull { n: -1, qid: -1 };
+    for request in [Request::Begin, Request::Run, pull, Request::Commit] {
+        assert_eq!(c.arrive(request), Ok(Arrival::Queued));
+    }
+    assert_eq!(c.take(), Ok(Taken::Handed { request: Request::Begin, number: 2 }));
+    let summary = Summary::Failure(Failure::EngineFailed);
+    assert_eq!(c.report(Outcome::Failure), Ok(Answered { summary, number: 2 }));
+    for number in 3..=5 {
+        assert_eq!(c.take(), Ok(Taken::Answered(Answered { summary: Summary::Ignored, number })));
+        assert_eq!(c.state(), Some(State::Failed));
+    }
+    assert_eq!(c.take(), Ok(Taken::Idle));
+    assert_eq!(c.arrive(Request::Reset), Ok(Arrival::Queued));
+    assert_eq!(c.take(), Ok(Taken::Answered(Answered { summary: Summary::Success, number: 6 })));
+    assert_eq!(c.state(), Some(State::Ready));
+}
+
 #[test]
 fn refused_calls_leave_the_record() {
     let mut c = ready();

@@ -1,6 +1,7 @@
 //! Drives `serve` through a pipe with a client written from source document 000: pipelined, with keep-alives between
 //! messages and writes cut at random. Answer k must be the one that belongs to request k.
 
+use meulhaton::{Outcome, Request};
 use std::io::{Read, Write};
 use std::process::{Command, Stdio};
 use std::thread;
@@ -351,6 +352,45 @@ fn failures_until_reset() {
     nine.extend((0..8).map(|number| run("part", qid(number))));
     nine.push(run("part", failure("Parts.Stream.Full")));
     assert_eq!(answers(&mut Random(4), 0, &nine), expected(&nine));
+}
+
+/// A driver sends BEGIN, RUN, PULL and COMMIT in one go. Where the engine fails the BEGIN, what comes behind it is
+/// ignored; then a RESET, and the same once more.
+#[test]
+fn begin_fails_in_a_pipeline() {
+    let in_one_go = [
+        hello(),
+        exchange(begin().request, failure("Parts.Engine.Failed")),
+        exchange(run("part", []).request, IGNORED),
+        exchange(pull().request, IGNORED),
+        exchange(commit().request, IGNORED),
+    ];
+    let once_more = [reset(), begin(), run("part", qid(0)), pull(), commit()];
+    let mut random = Random(16);
+    let first = raw(&mut random, 1, &in_one_go);
+    let second = frames(&mut random, 1, &once_more);
+    let (mut answers, mut log, mut begins) = (Vec::new(), Vec::new(), 0);
+    let engine = |request| {
+        begins += usize::from(request == Request::Begin);
+        if request == Request::Begin && begins == 1 { Outcome::Failure } else { Outcome::Success }
+    };
+    // A read gives nothing of the second part before the first is at its end, and answered.
+    serve::serve(&mut first.chain(&second[..]), &mut answers, &mut log, engine).expect("serve ends");
+    assert_eq!(messages(1, &answers), expected(&[in_one_go, once_more].concat()));
+    assert_eq!((begins, log), (2, Vec::new()));
+}
+
+/// In FAILED the work of every kind is ignored; HELLO does not fit the state.
+#[test]
+fn failed_ignores_work_and_closes_for_hello() {
+    let work = [run("part", []), begin(), commit(), plain(0x13), batch(0x2F, 0), pull()];
+    let mut exchanges =
+        vec![hello(), run("part", SUCCESS), exchange(batch(0x3F, 7).request, failure("Parts.Stream.Unknown"))];
+    exchanges.extend(work.map(|ignored| exchange(ignored.request, IGNORED)));
+    exchanges.extend([exchange(hello().request, []), exchange(pull().request, [])]);
+    for seed in 1..9 {
+        assert_eq!(answers(&mut Random(seed), 2, &exchanges), expected(&exchanges));
+    }
 }
 
 /// Each of these is refused with 7 to 15 or 25 to 27; what came before is answered, and nothing after.

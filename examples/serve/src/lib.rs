@@ -25,10 +25,17 @@ enum Next {
 }
 
 /// Serves one client until it leaves, says GOODBYE, or has to be left.
-pub fn serve(input: &mut impl Read, output: &mut impl Write, log: &mut impl Write) -> io::Result<()> {
+///
+/// The engine does the work of each request that is handed to it, one after the other, and says how it came out.
+pub fn serve(
+    input: &mut impl Read,
+    output: &mut impl Write,
+    log: &mut impl Write,
+    engine: impl FnMut(Request) -> Outcome,
+) -> io::Result<()> {
     let mut gathered = Gathered { input, bytes: Vec::new() };
     let Some(version) = shake_hands(&mut gathered, output, log)? else { return output.flush() };
-    let mut conversation = Conversation::new(version, output, log);
+    let mut conversation = Conversation::new(version, output, log, engine);
     loop {
         let next = conversation.hear(&mut gathered.bytes)?;
         conversation.output.flush()?;
@@ -81,25 +88,27 @@ fn shake_hands(
     }
 }
 
-struct Conversation<'o, W, L> {
+struct Conversation<'o, W, L, E> {
     version: Version,
     connection: Connection,
     output: &'o mut W,
     log: &'o mut L,
+    engine: E,
     /// Lent to the library, and enlarged where it says that there is no room.
     message: Vec<u8>,
     summary: Vec<u8>,
     chunks: Vec<u8>,
 }
 
-impl<'o, W: Write, L: Write> Conversation<'o, W, L> {
-    fn new(version: Version, output: &'o mut W, log: &'o mut L) -> Self {
+impl<'o, W: Write, L: Write, E: FnMut(Request) -> Outcome> Conversation<'o, W, L, E> {
+    fn new(version: Version, output: &'o mut W, log: &'o mut L, engine: E) -> Self {
         let buffer = || vec![0; 64];
         Conversation {
             version,
             connection: Connection::fresh(),
             output,
             log,
+            engine,
             message: buffer(),
             summary: buffer(),
             chunks: buffer(),
@@ -169,7 +178,7 @@ impl<'o, W: Write, L: Write> Conversation<'o, W, L> {
             let summary = match self.connection.take() {
                 Ok(Taken::Idle) => return Ok(Next::ReadMore),
                 Ok(Taken::Answered(answered)) => answered.summary,
-                Ok(Taken::Handed { request, .. }) => match self.connection.report(engine(request)) {
+                Ok(Taken::Handed { request, .. }) => match self.connection.report((self.engine)(request)) {
                     Ok(answered) => answered.summary,
                     Err(refusal) => return Err(unexpected(refusal)),
                 },
@@ -187,11 +196,6 @@ impl<'o, W: Write, L: Write> Conversation<'o, W, L> {
         let length = with_room(&mut self.chunks, |buffer| meulhaton::write_chunks(message, CHUNK_SIZE, buffer));
         self.output.write_all(&self.chunks[..length.map_err(unexpected)?])
     }
-}
-
-/// Where the engine's work would be done. It succeeds, and no batch leaves records behind.
-fn engine(_request: Request) -> Outcome {
-    Outcome::Success
 }
 
 /// Calls with a larger buffer for as long as there is no room.
