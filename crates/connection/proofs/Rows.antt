@@ -2,7 +2,7 @@
 -- rest on. Assumes nothing.
 use mathlib.Core.Path.{_≡_, refl, sym, ap, _∙_}
 use mathlib.Core.Bool.{Bool, true, false, cond, not, _&&_, _||_, Bool·beq}
-use mathlib.Core.List.{List, [], _∷_, _++_}
+use mathlib.Core.List.{_++_}
 use Prim.Native.Nat.{ℕ}
 use lib.Dec.{eqb}
 use borrow.Author.Tests.{eqb-true}
@@ -13,6 +13,7 @@ use Rattle.connection.specs.Requests.{rank, inState, inTransaction, isSt
 use Rattle.bolt.specs.Requests.{Kind, HELLO, GOODBYE, RESET, RUN, BEGIN, COMMIT, ROLLBACK, DISCARD, PULL}
 use Rattle.connection.specs.Appendix.{rows, addedRows, isRow, follow, Response, success, more, last, last-of-several, failure, ignored, newState, handsOver, handedSomewhere, works}
 use Rattle.connection.specs.Table.{ignores}
+use Rattle.connection.specs.Stopped.{runToPull}
 use Rattle.connection.specs.Private.Parts.{lastState, failureState}
 use Rattle.connection.proofs.Bools.{and-left, and-right, and-both, not-no, same-alike}
 
@@ -75,6 +76,10 @@ each f e s k = each-state (λ (s : State). f s k) (each-kind (λ (k : Kind). all
 agree : (f g : State → Kind → Bool) → allKinds (λ (k : Kind). allStates (λ (s : State). Bool·beq (f s k) (g s k))) ≡ true → (s : State) (k : Kind) → f s k ≡ g s k
 agree f g e s k = same-alike (f s k) (g s k) (each (λ (s : State) (k : Kind). Bool·beq (f s k) (g s k)) e s k)
 
+-- two tests of kinds that agree, and a request whose kind is told
+pub by-kind : {f g : Kind → Bool} → ((k : Kind) → f k ≡ g k) → (r : Request) (k : Kind) {b : Bool} → kindOf r ≡ k → b ≡ f k → b ≡ g (kindOf r)
+by-kind {g = g} same r k told e = e ∙ same k ∙ ap g (sym told)
+
 -- states of one rank are one
 ranked : ℕ → State
 ranked n = cond (eqb n 0) Connected (cond (eqb n 1) Ready (cond (eqb n 2) Streaming (cond (eqb n 3) TxReady (cond (eqb n 4) TxStreaming (cond (eqb n 5) Failed (cond (eqb n 6) Interrupted Defunct))))))
@@ -132,6 +137,10 @@ agree-state : (h : State → Kind → Bool) (f g : State → Kind → State) →
 agree-state h f g e s k t =
     same-state (f s k) (g s k) (sym (ap (λ (b : Bool). not b || inState (f s k) (g s k)) t) ∙ each (λ (s : State) (k : Kind). not (h s k) || inState (f s k) (g s k)) e s k)
 
+-- a state that is left as it is, whatever the kind
+leaves : (f : State → Kind → State) → allKinds (λ (k : Kind). allStates (λ (s : State). inState (f s k) s)) ≡ true → (s : State) (k : Kind) → f s k ≡ s
+leaves f e s k = same-state (f s k) s (each (λ (s : State) (k : Kind). inState (f s k) s) e s k)
+
 abbrev pub successState : State → Kind → State
 successState s HELLO = Ready
 successState s GOODBYE = s
@@ -153,11 +162,11 @@ after-failure = agree-state handsOver (λ (s : State) (k : Kind). newState s k f
 
 pub after-more : (s : State) (k : Kind) → newState s k more ≡ s
 unfolding newState allStates allKinds
-after-more s k = agree-state (λ (s : State) (k : Kind). true) (λ (s : State) (k : Kind). newState s k more) (λ (s : State) (k : Kind). s) refl s k refl
+after-more = leaves (λ (s : State) (k : Kind). newState s k more) refl
 
 pub after-several : (s : State) (k : Kind) → newState s k last-of-several ≡ s
 unfolding newState allStates allKinds
-after-several s k = agree-state (λ (s : State) (k : Kind). true) (λ (s : State) (k : Kind). newState s k last-of-several) (λ (s : State) (k : Kind). s) refl s k refl
+after-several = leaves (λ (s : State) (k : Kind). newState s k last-of-several) refl
 
 pub after-last : (s : State) (k : Kind) → (handsOver s k && fetching k) ≡ true → newState s k last ≡ cond (inState s Streaming) Ready TxReady
 unfolding handsOver newState allStates allKinds
@@ -224,14 +233,11 @@ rest-streams s k h f e =
     (λ (s : State) (k : Kind). not (inState (newState s k success) TxStreaming || inState s TxStreaming)) refl s k
     (and-both (handsOver s k) (not (fetching k) && not (isKind k RUN && inTransaction s)) h (and-both (not (fetching k)) (not (isKind k RUN && inTransaction s)) (ap not f) (ap not e))))
 
--- ---- what is ignored
--- work are these six
-abbrev six : List Kind
-six = RUN ∷ BEGIN ∷ COMMIT ∷ ROLLBACK ∷ DISCARD ∷ PULL ∷ []
-
-pub work-six : (k : Kind) → works k ≡ any (isKind k) six
+-- ---- a stopped connection
+-- work is these six
+pub work-six : (k : Kind) → works k ≡ any (isKind k) runToPull
 unfolding allKinds works handedSomewhere handsOver
-work-six k = same-alike (works k) (any (isKind k) six) (each-kind (λ (k : Kind). Bool·beq (works k) (any (isKind k) six)) refl k)
+work-six k = same-alike (works k) (any (isKind k) runToPull) (each-kind (λ (k : Kind). Bool·beq (works k) (any (isKind k) runToPull)) refl k)
 
 -- the rule and the rows agree
 pub ignored-listed : (s : State) (k : Kind) → ignores s k ≡ any (isRow s k ignored) (rows ++ addedRows)
@@ -240,10 +246,13 @@ ignored-listed = agree ignores (λ (s : State) (k : Kind). any (isRow s k ignore
 
 pub ignored-stays : (s : State) (k : Kind) → follow s k ignored (rows ++ addedRows) ≡ s
 unfolding allStates allKinds
-ignored-stays s k = agree-state (λ (s : State) (k : Kind). true) (λ (s : State) (k : Kind). follow s k ignored (rows ++ addedRows)) (λ (s : State) (k : Kind). s) refl s k refl
+ignored-stays = leaves (λ (s : State) (k : Kind). follow s k ignored (rows ++ addedRows)) refl
 
--- a stopped connection is not closed
+-- it hands nothing over, and is not closed
+pub stopped-hands : (s : State) (k : Kind) → isStopped s ≡ true → handsOver s k ≡ false
+unfolding handsOver allStates allKinds
+stopped-hands s k e = not-no _ (follows (λ (s : State) (k : Kind). isStopped s) (λ (s : State) (k : Kind). not (handsOver s k)) refl s k e)
+
 pub stopped-live : (s : State) → isStopped s ≡ true → inState s Defunct ≡ false
-unfolding allStates
-stopped-live s e =
-    not-no (inState s Defunct) (sym (ap (λ (b : Bool). not b || not (inState s Defunct)) e) ∙ each-state (λ (s : State). not (isStopped s) || not (inState s Defunct)) refl s)
+unfolding allStates allKinds
+stopped-live s e = not-no _ (follows (λ (s : State) (k : Kind). isStopped s) (λ (s : State) (k : Kind). not (inState s Defunct)) refl s RUN e)

@@ -1,6 +1,6 @@
 -- A stopped connection ignores work. Assumes nothing.
 use mathlib.Core.Path.{_≡_, refl, sym, ap, _∙_}
-use mathlib.Core.Bool.{Bool, true, false, cond, true≢false}
+use mathlib.Core.Bool.{true, false, cond}
 use mathlib.Core.List.{List, [], _∷_, _++_, map}
 use Prim.Native.Nat.{ℕ, _+_}
 use native.Mathlib.Nat.{add-zero}
@@ -13,27 +13,18 @@ use Rattle.connection.specs.declared.answers.Summary.the-variants.{Ignor
 use Rattle.connection.specs.declared.turn.Turn.{Turn}
 use Rattle.connection.specs.declared.turn.Turn.the-variants as U
 use Rattle.connection.specs.Requests.{kindOf, isStopped, is}
-use Rattle.bolt.specs.Requests.{Kind, RESET}
-use Rattle.connection.specs.Appendix.{handsOver, works}
+use Rattle.bolt.specs.Requests.{RESET}
+use Rattle.connection.specs.Appendix.{works}
 use Rattle.connection.specs.Table as T
 use Rattle.connection.specs.Table.{Open, Table, Done, turnOf, counted, taken, takeFirst, step}
 use Rattle.connection.specs.Claim.{Event, saidBy, leftBy, runT, eventsT}
 use Rattle.connection.specs.Stopped.{allWork, takes, allIgnored, passed, Stopped, Claim}
 use Rattle.connection.proofs.Bools.{and-left, and-right}
-use Rattle.connection.proofs.Rows.{work-six, ignored-listed, ignored-stays, stopped-live, hands-running, works-calm}
+use Rattle.connection.proofs.Rows.{work-six, ignored-listed, ignored-stays, stopped-hands, stopped-live, works-calm}
 use Rattle.connection.proofs.Turns.{ignores-by, turn-by}
 
--- ---- a stopped state
-module _ (s : State) (stopped : isStopped s ≡ true) where
-  hands-nothing : (k : Kind) → handsOver s k ≡ false
-  hands-nothing k = by-test (handsOver s k) refl
-    where
-      by-test : (b : Bool) → handsOver s k ≡ b → b ≡ false
-      by-test true h = absurd (true≢false (sym stopped ∙ hands-running s k h))
-      by-test false h = refl
-
-  turns : (o : Open) (r : Request) → turnOf s o r ≡ cond (is RESET r) U.Resets (cond (works (kindOf r)) U.Ignored U.Closes)
-  turns o r = turn-by s o r refl (ignores-by s (kindOf r) stopped) (hands-nothing (kindOf r)) refl refl refl refl
+turns : (s : State) (o : Open) (r : Request) → isStopped s ≡ true → turnOf s o r ≡ cond (is RESET r) U.Resets (cond (works (kindOf r)) U.Ignored U.Closes)
+turns s o r stopped = turn-by s o r refl (ignores-by s (kindOf r) stopped) (stopped-hands s (kindOf r) stopped) refl refl refl refl
 
 -- ---- a pipeline of work
 -- the first of the requests is ignored
@@ -44,7 +35,7 @@ module _ (t : Table) (r : Request) (rs behind : List Request) (s : Stopped t (r 
   first-ignored : step t T.take ≡ result (taken U.Ignored t r (rs ++ behind))
   first-ignored =
       let stopped = s .stopped in
-      let turn : turnOf (t .state) (t .streams) r ≡ U.Ignored = turns (t .state) stopped (t .streams) r ∙ λ i. cond (works-calm (kindOf r) work i) U.Resets (cond (work i) U.Ignored U.Closes) in
+      let turn : turnOf (t .state) (t .streams) r ≡ U.Ignored = turns (t .state) (t .streams) r stopped ∙ λ i. cond (works-calm (kindOf r) work i) U.Resets (cond (work i) U.Ignored U.Closes) in
       (λ i. cond (stopped-live (t .state) stopped i) (refused 18 0) (result (cond (s .none i) (record { table = t; said = T.idle }) (takeFirst t (s .wait i)))))
       ∙ ap (λ (u : Turn). result (taken u t r (rs ++ behind))) turn
     where
@@ -71,7 +62,7 @@ stopped = record {
   six = work-six;
   listed = ignored-listed;
   stays = ignored-stays;
-  turns = λ s o r stopped. turns s stopped o r;
+  turns = turns;
   ignoring = ignoring;
   keeping = keeping;
 }

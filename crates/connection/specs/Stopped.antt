@@ -18,6 +18,10 @@ use Rattle.connection.specs.Table as T
 use Rattle.connection.specs.Table.{Open, Table, Call, Said, numberAfter, ignores, turnOf}
 use Rattle.connection.specs.Claim.{Event, runT, eventsT}
 
+-- "the six requests RUN to PULL": document 01, Take
+abbrev pub runToPull : List Kind
+runToPull = RUN ∷ BEGIN ∷ COMMIT ∷ ROLLBACK ∷ DISCARD ∷ PULL ∷ []
+
 abbrev pub allWork : List Request → Bool
 allWork [] = true
 allWork (r ∷ rs) = works (kindOf r) && allWork rs
@@ -44,8 +48,8 @@ pub record Stopped (t : Table) (first behind : List Request) : Type 0 where
   pub work : allWork first ≡ true
 
 pub record Claim : Type 0 where
-  -- work are "the six requests RUN to PULL"
-  pub six : (k : Kind) → works k ≡ any (isKind k) (RUN ∷ BEGIN ∷ COMMIT ∷ ROLLBACK ∷ DISCARD ∷ PULL ∷ [])
+  -- work is these six
+  pub six : (k : Kind) → works k ≡ any (isKind k) runToPull
   -- ignored is what has a row with IGNORED, 003's or an added one, and nothing else
   pub listed : (s : State) (k : Kind) → ignores s k ≡ any (isRow s k ignored) (rows ++ addedRows)
   -- every such row leaves the state

@@ -114,7 +114,7 @@ arriveT t r =
     (refused 27 0))
 
 -- ---- take
--- a stopped connection ignores work
+-- a stopped connection ignores work: 003's rows with IGNORED and those that 000 adds, as Stopped.antt says
 unfoldable pub ignores : State → Kind → Bool
 ignores s k = isStopped s && works k
 
