@@ -345,15 +345,15 @@ meulhaton_connection meulhaton_fresh(void);
  * Refusals, in this order: 24, 18, 27 (n or qid is out of its range, or the kind is no request's), 20, 17. */
 meulhaton_reply meulhaton_arrive(meulhaton_connection *connection, meulhaton_request request);
 
-/* The turn of the first request that waits. After a failure, and while a RESET waits, the requests from RUN to PULL are answered with
- * IGNORED and the engine sees none of them: what a client sent behind a request that failed costs it nothing but its answers.
+/* The turn of the first request that waits. In FAILED, which a failure leads to, and in INTERRUPTED, while a RESET waits, the requests from
+ * RUN to PULL are answered with IGNORED and not handed over: a client may have sent them before it knew of the failure.
  * Answers: MEULHATON_IDLE, MEULHATON_HANDED, MEULHATON_ANSWERED, MEULHATON_CLOSED.
  * Refusals, in this order: 24, 18. */
 meulhaton_reply meulhaton_take(meulhaton_connection *connection);
 
 /* The engine's outcome for the request in flight.
  * Answers: MEULHATON_ANSWERED. After a HELLO that failed the connection is DEFUNCT: send the summary and drop the transport. After any other
- * failure it is FAILED until the client sends a RESET: send the summary and go on.
+ * failure it is FAILED, or still INTERRUPTED where a RESET waits: send the summary and go on, a RESET leads back to READY.
  * Refusals, in this order: 24, 18, 19 (nothing is in flight, there is more for a request that has none, or the outcome is none). */
 meulhaton_reply meulhaton_report(meulhaton_connection *connection, meulhaton_outcome outcome);
 

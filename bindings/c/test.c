@@ -202,14 +202,14 @@ static meulhaton_reply served(meulhaton_connection *connection, uint8_t kind, ui
 static void failed_begin(void) {
     meulhaton_connection connection = meulhaton_fresh();
     served(&connection, MEULHATON_HELLO, MEULHATON_OUTCOME_SUCCESS);
-    meulhaton_reply reply = served(&connection, MEULHATON_BEGIN, MEULHATON_OUTCOME_FAILURE);
+    const uint8_t sent[] = {MEULHATON_BEGIN, MEULHATON_RUN, MEULHATON_PULL, MEULHATON_COMMIT};
+    for (size_t i = 0; i < sizeof sent; i++) HOLDS(meulhaton_arrive(&connection, (meulhaton_request){sent[i], 1, -1}).said == MEULHATON_QUEUED);
+    HOLDS(meulhaton_take(&connection).request.kind == MEULHATON_BEGIN);
+    meulhaton_reply reply = meulhaton_report(&connection, (meulhaton_outcome){MEULHATON_OUTCOME_FAILURE});
     HOLDS(reply.said == MEULHATON_ANSWERED && reply.number == 2 && reply.summary.kind == MEULHATON_FAILURE_ENGINE);
-    HOLDS(connection.state == MEULHATON_FAILED);
-    const uint8_t behind[] = {MEULHATON_RUN, MEULHATON_PULL, MEULHATON_COMMIT};
-    for (size_t i = 0; i < sizeof behind; i++) HOLDS(meulhaton_arrive(&connection, (meulhaton_request){behind[i], 1, -1}).said == MEULHATON_QUEUED);
-    for (size_t i = 0; i < sizeof behind; i++) {
+    for (uint64_t number = 3; number <= 5; number++) {
         reply = meulhaton_take(&connection);
-        HOLDS(reply.said == MEULHATON_ANSWERED && reply.number == 3 + i && reply.summary.kind == MEULHATON_IGNORED);
+        HOLDS(reply.said == MEULHATON_ANSWERED && reply.number == number && reply.summary.kind == MEULHATON_IGNORED);
     }
     HOLDS(meulhaton_take(&connection).said == MEULHATON_IDLE && connection.state == MEULHATON_FAILED);
     HOLDS(meulhaton_arrive(&connection, (meulhaton_request){MEULHATON_RESET, 0, 0}).said == MEULHATON_QUEUED);

@@ -212,8 +212,8 @@ impl Connection {
         })
     }
 
-    /// The turn of the first request that waits. After a failure, and while a RESET waits, the requests from RUN to PULL are answered with
-    /// IGNORED and the engine sees none of them: what a client sent behind a request that failed costs it nothing but its answers.
+    /// The turn of the first request that waits. In FAILED, which a failure leads to, and in INTERRUPTED, while a RESET waits, the requests
+    /// from RUN to PULL are answered with IGNORED and not handed over: a client may have sent them before it knew of the failure.
     ///
     /// Refuses with 24, then with 18.
     pub fn take(&mut self) -> Result<Taken, Refusal> {
@@ -228,8 +228,8 @@ impl Connection {
         })
     }
 
-    /// The engine's outcome for the request in flight. After a HELLO that failed the connection is DEFUNCT, after any other failure FAILED,
-    /// until the client sends a RESET.
+    /// The engine's outcome for the request in flight. After a HELLO that failed the connection is DEFUNCT; after any other failure it is
+    /// FAILED, or still INTERRUPTED where a RESET waits, and a RESET leads back to READY.
     ///
     /// Refuses with 24, then with 18, then with 19 where no request is in flight, or where there is more for a request that has none.
     pub fn report(&mut self, outcome: Outcome) -> Result<Answered, Refusal> {

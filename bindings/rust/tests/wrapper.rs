@@ -211,7 +211,7 @@ fn transaction() {
     assert_eq!(c.close(), Err(refused(18, 0)));
 }
 
-/// BEGIN, RUN, PULL and COMMIT in one go, and the BEGIN fails: the rest is ignored, and a RESET leads on.
+/// BEGIN, RUN, PULL and COMMIT in one go, and the BEGIN fails: the rest is ignored, and after a RESET a BEGIN passes.
 #[test]
 fn begin_fails_in_a_pipeline() {
     let mut c = ready();
@@ -230,6 +230,10 @@ fn begin_fails_in_a_pipeline() {
     assert_eq!(c.arrive(Request::Reset), Ok(Arrival::Queued));
     assert_eq!(c.take(), Ok(Taken::Answered(Answered { summary: Summary::Success, number: 6 })));
     assert_eq!(c.state(), Some(State::Ready));
+    assert_eq!(c.arrive(Request::Begin), Ok(Arrival::Queued));
+    assert_eq!(c.take(), Ok(Taken::Handed { request: Request::Begin, number: 7 }));
+    assert_eq!(c.report(Outcome::Success), Ok(Answered { summary: Summary::Success, number: 7 }));
+    assert_eq!(c.state(), Some(State::TxReady));
 }
 
 #[test]
