@@ -1,6 +1,7 @@
 //! What a request was refused for with 25, 26 or 27, told from the message and the place: so that it is known whether
 //! every such complaint was met, and not the number alone.
 
+use crate::sides::tag::{BEGIN, DISCARD, HELLO, PULL, RUN};
 use reference::Refusal;
 use reference::value::{self, Value};
 
@@ -19,12 +20,6 @@ pub enum Complaint {
     Number,
     Word,
 }
-
-const HELLO: u8 = 0x01;
-const RUN: u8 = 0x10;
-const BEGIN: u8 = 0x11;
-const DISCARD: u8 = 0x2F;
-const PULL: u8 = 0x3F;
 
 /// Every complaint that there can be about each request, by its tag.
 pub fn all() -> impl Iterator<Item = (u8, Complaint)> {

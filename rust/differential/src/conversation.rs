@@ -2,7 +2,7 @@
 
 use crate::compare::{Comparison, Difference};
 use crate::random::Random;
-use crate::sides::{Call, Image, Reply, RequestImage, STATES, Side, report};
+use crate::sides::{Call, Image, Reply, RequestImage, STATES, Side, report, tag};
 use reference::connection::{Arrival, Kind, Turn};
 use reference::pack::{Failure, Summary};
 use reference::request::Batch;
@@ -109,15 +109,11 @@ pub const FAILED: u8 = 5;
 const INTERRUPTED: u8 = 6;
 const DEFUNCT: u8 = 7;
 
-/// The requests by their tags.
-const TAGS: [u8; 9] = [0x01, 0x02, RESET, 0x10, 0x11, 0x12, 0x13, 0x2F, 0x3F];
-const RESET: u8 = 0x0F;
-
 /// Every turn that there can be, the state and the request's tag. DEFUNCT has none, and a RESET waits in INTERRUPTED
 /// alone.
 pub fn turns() -> impl Iterator<Item = (u8, u8)> {
-    let turns = (0..DEFUNCT).flat_map(|state| TAGS.map(move |tag| (state, tag)));
-    turns.filter(|&(state, tag)| tag != RESET || state == INTERRUPTED)
+    let turns = (0..DEFUNCT).flat_map(|state| tag::ALL.map(move |tag| (state, tag)));
+    turns.filter(|&(state, tag)| tag != tag::RESET || state == INTERRUPTED)
 }
 
 fn batch(random: &mut Random, image: &Image) -> Batch {

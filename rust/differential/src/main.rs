@@ -98,15 +98,25 @@ fn main() -> ExitCode {
 mod tests {
     use super::*;
     use crate::conversation::FAILED;
-    use crate::sides::{Asked, Call, Found, Image, Item, Reply, RequestImage};
+    use crate::sides::{Asked, Call, Found, Image, Item, Reply, RequestImage, tag};
     use reference::connection::{Kind, Turn};
     use reference::frame::Frame;
     use reference::handshake::Version;
     use reference::{Refusal, Result};
 
-    /// The reference with one fault.
-    #[derive(Clone, Copy, PartialEq, Debug)]
-    enum Fault {
+    macro_rules! faults {
+        ($($fault:ident,)*) => {
+            /// The reference with one fault.
+            #[derive(Clone, Copy, PartialEq, Debug)]
+            enum Fault {
+                $($fault,)*
+            }
+
+            const FAULTS: &[Fault] = &[$(Fault::$fault,)*];
+        };
+    }
+
+    faults! {
         PreambleAfterLength,
         WritesBeforeRefusing,
         ForgetsLastHeader,
@@ -135,18 +145,18 @@ mod tests {
             let turned = |turn| Some(Ok(Reply::Turned(turn)));
             match (self, image.turn()?) {
                 (Fault::AlwaysIdle, _) => turned(Turn::Idle),
-                (Fault::ClosesForCommitInFailed, (FAILED, 0x12)) => {
+                (Fault::ClosesForCommitInFailed, (FAILED, tag::COMMIT)) => {
                     Some(Reference.call(image, Call::Close).map(|_| Reply::Turned(Turn::Closed)))
                 }
-                (Fault::HandsOverCommitInFailed, (FAILED, 0x12)) => {
+                (Fault::HandsOverCommitInFailed, (FAILED, tag::COMMIT)) => {
                     image.in_flight = 1;
                     turned(Turn::Handed { kind: Kind::Commit, number: image.sent + 1 })
                 }
-                (Fault::IgnoresHelloInFailed, (FAILED, 0x01)) => {
+                (Fault::IgnoresHelloInFailed, (FAILED, tag::HELLO)) => {
                     image.requests[0] = RequestImage::new(Kind::Run);
                     Some(Reference.call(image, Call::Take))
                 }
-                (Fault::IgnoredBeginSetsNext, (FAILED, 0x11)) => {
+                (Fault::IgnoredBeginSetsNext, (FAILED, tag::BEGIN)) => {
                     let reply = Reference.call(image, Call::Take);
                     image.next = 0;
                     Some(reply)
@@ -263,30 +273,8 @@ mod tests {
 
     #[test]
     fn every_fault_is_found() {
-        use Fault::*;
-        for fault in [
-            PreambleAfterLength,
-            WritesBeforeRefusing,
-            ForgetsLastHeader,
-            PlaceOfRepeat,
-            AlwaysNull,
-            AbsentIsZero,
-            NegativeIsWide,
-            SixteenFields,
-            AlwaysIdle,
-            LosesCount,
-            BreaksForNoKind,
-            FailsForNoOutcome,
-            KindAndRangeExchanged,
-            NullFieldIsAbsent,
-            AbsentAtItsNull,
-            ArrivesAsWrongKind,
-            ClosesForCommitInFailed,
-            IgnoresHelloInFailed,
-            HandsOverCommitInFailed,
-            IgnoredBeginSetsNext,
-        ] {
-            assert!(compare(&fault, &Reference, 7, 20).is_err(), "{fault:?}");
+        for fault in FAULTS {
+            assert!(compare(fault, &Reference, 7, 20).is_err(), "{fault:?}");
         }
     }
 }

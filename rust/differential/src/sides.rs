@@ -214,6 +214,20 @@ pub const STATES: [State; 8] = [
     State::Defunct,
 ];
 
+/// The tags of the requests.
+pub mod tag {
+    pub const HELLO: u8 = 0x01;
+    pub const GOODBYE: u8 = 0x02;
+    pub const RESET: u8 = 0x0F;
+    pub const RUN: u8 = 0x10;
+    pub const BEGIN: u8 = 0x11;
+    pub const COMMIT: u8 = 0x12;
+    pub const ROLLBACK: u8 = 0x13;
+    pub const DISCARD: u8 = 0x2F;
+    pub const PULL: u8 = 0x3F;
+    pub const ALL: [u8; 9] = [HELLO, GOODBYE, RESET, RUN, BEGIN, COMMIT, ROLLBACK, DISCARD, PULL];
+}
+
 /// The outcome of this number, if there is one.
 pub fn report(number: u8) -> Option<Report> {
     [Report::Success, Report::SuccessWithMore, Report::Failure].get(usize::from(number)).copied()
@@ -222,15 +236,15 @@ pub fn report(number: u8) -> Option<Report> {
 impl RequestImage {
     pub fn new(kind: Kind) -> Self {
         let (kind, batch) = match kind {
-            Kind::Hello => (0x01, None),
-            Kind::Goodbye => (0x02, None),
-            Kind::Reset => (0x0F, None),
-            Kind::Run => (0x10, None),
-            Kind::Begin => (0x11, None),
-            Kind::Commit => (0x12, None),
-            Kind::Rollback => (0x13, None),
-            Kind::Discard(batch) => (0x2F, Some(batch)),
-            Kind::Pull(batch) => (0x3F, Some(batch)),
+            Kind::Hello => (tag::HELLO, None),
+            Kind::Goodbye => (tag::GOODBYE, None),
+            Kind::Reset => (tag::RESET, None),
+            Kind::Run => (tag::RUN, None),
+            Kind::Begin => (tag::BEGIN, None),
+            Kind::Commit => (tag::COMMIT, None),
+            Kind::Rollback => (tag::ROLLBACK, None),
+            Kind::Discard(batch) => (tag::DISCARD, Some(batch)),
+            Kind::Pull(batch) => (tag::PULL, Some(batch)),
         };
         let Batch { n, qid } = batch.unwrap_or(Batch { n: 0, qid: 0 });
         RequestImage { kind, n, qid }
@@ -239,15 +253,15 @@ impl RequestImage {
     pub fn kind(self) -> Option<Kind> {
         let batch = Batch { n: self.n, qid: self.qid };
         Some(match self.kind {
-            0x01 => Kind::Hello,
-            0x02 => Kind::Goodbye,
-            0x0F => Kind::Reset,
-            0x10 => Kind::Run,
-            0x11 => Kind::Begin,
-            0x12 => Kind::Commit,
-            0x13 => Kind::Rollback,
-            0x2F => Kind::Discard(batch),
-            0x3F => Kind::Pull(batch),
+            tag::HELLO => Kind::Hello,
+            tag::GOODBYE => Kind::Goodbye,
+            tag::RESET => Kind::Reset,
+            tag::RUN => Kind::Run,
+            tag::BEGIN => Kind::Begin,
+            tag::COMMIT => Kind::Commit,
+            tag::ROLLBACK => Kind::Rollback,
+            tag::DISCARD => Kind::Discard(batch),
+            tag::PULL => Kind::Pull(batch),
             _ => return None,
         })
     }
