@@ -9,7 +9,7 @@ use lib.IntN.{ℤ}
 use lib.ListN.{length}
 use borrow.Author.Tests.{not-true, not-false, eqb-true, ltb-true, lt-ltb, le-ltb, le-leb, lt-leb, leb-true, leb-false}
 use Rattle.slices.specs.Parts.{part, reaches}
-use Rattle.slices.proofs.Parts.{reaches-yes, reaches-no, reaches-le, reaches-lt, length-part}
+use Rattle.slices.proofs.Parts.{bytes-part, reaches-yes, reaches-no, reaches-le, reaches-lt, length-part}
 use Rattle.numbers.specs.BigEndian.{bigEndian, Bytes, holds}
 use Rattle.numbers.specs.TwosComplement.{twos}
 use Rattle.numbers.specs.Access.{isWidth, unsignedAt, signedAt, signedOf, storing}
@@ -18,7 +18,7 @@ use Rattle.numbers.specs.declared.Unsigned.the-variants as U
 use Rattle.numbers.specs.declared.Signed.the-variants as S
 use Rattle.numbers.specs.declared.Stored.{Stored}
 use Rattle.numbers.specs.declared.Stored.the-variants.{Written, OutOfRange, OutOfBounds, InvalidWidth}
-use Rattle.numbers.proofs.BigEndian.{big-lt, bytes-part, pow256-pos}
+use Rattle.numbers.proofs.BigEndian.{big-lt, pow256-pos}
 
 -- ---- the tests of the code
 -- a test made by `!` that is taken, and one that is not

@@ -1,17 +1,17 @@
 -- The laws of big-endian numbers, once for every width. Assumes nothing.
 use mathlib.Core.Path.{_≡_, refl, sym, ap, ap₂, _∙_, subst}
-use mathlib.Core.Bool.{Bool, true, false}
+use mathlib.Core.Bool.{Bool}
 use mathlib.Core.List.{List, [], _∷_, _++_}
 use Prim.Native.Nat.{ℕ, zero, suc, _+_, _*_, _-_, _/_, _%_, _^_, _≤_, _<_}
 use native.Mathlib.Nat.{pow-suc, pow-le-pow-right, mod-eq-of-lt, mod-lt, mod-one, mul-add-div-right, one-le-pow, zero-lt-suc}
 use native.Mathlib.Numerals.{add-one}
 use native.Mathlib.Omega.{arith}
 use lib.Arith.{digits-div, digits-lt, mod-mul}
-use lib.Dec.{ltb, eqb, lit<}
-use lib.ListN.{length, getD, set, drop, length-append, length-drop, length-take, List·getD-eq-default}
+use lib.Dec.{eqb, lit<}
+use lib.ListN.{length, getD, set, drop, length-append, length-drop}
 use lib.Pow.{pow-add}
-use lib.Seq.{take-suc, getD-drop, getD-take, sets}
-use borrow.Author.Tests.{ltb-true, ltb-false, eqb-true}
+use lib.Seq.{take-suc, getD-drop, sets}
+use borrow.Author.Tests.{eqb-true}
 use Rattle.slices.specs.Parts.{part}
 use Rattle.slices.proofs.Below.{below}
 use Rattle.numbers.specs.BigEndian.{bigEndian, bytesOf, Bytes}
@@ -97,16 +97,6 @@ big-one s at h =
 -- two bytes, as code without a loop reads them
 pub big-two : (s : List ℕ) (at : ℕ) → at + 1 < length s → bigEndian (part s at 2) ≡ getD s at 0 * 256 + getD s (at + 1) 0
 big-two s at h = big-part s at 1 h ∙ ap (λ (n : ℕ). n * 256 + getD s (at + 1) 0) (big-one s at (omega arith))
-
--- a part of bytes is bytes
-pub bytes-part : (s : List ℕ) (at k : ℕ) → Bytes s → Bytes (part s at k)
-bytes-part s at k h i = by (ltb i k) refl
-  where
-    by : (b : Bool) → ltb i k ≡ b → getD (part s at k) i 0 < 256
-    by true e = rw (getD-take k (drop at s) i 0 (ltb-true i k e), getD-drop at s i 0) (h (at + i))
-    by false e =
-        let l : length (part s at k) ≤ i = omega (arith, length-take k (drop at s), ltb-false i k e) in
-        rw (List·getD-eq-default (part s at k) 0 l) (lit< tt)
 
 -- ---- the bytes of a number
 pub length-bytesOf : (k n : ℕ) → length (bytesOf k n) ≡ k

@@ -10,13 +10,13 @@ use lib.Dec.{ltb, leb, eqb}
 use lib.IntN.{ℤ}
 use lib.ListN.{length, getD, length-append}
 use Rattle.slices.specs.Parts.{part}
-use Rattle.slices.proofs.Parts.{length-part, part-cons}
+use Rattle.slices.proofs.Parts.{bytes-part, length-part, part-cons}
 use Rattle.slices.proofs.Below.{below}
 use Rattle.numbers.specs.BigEndian.{bigEndian, bytesOf, holds, Bytes}
 use Rattle.numbers.specs.TwosComplement.{twos, bitsOf, fitsIn}
 use Rattle.numbers.specs.Access.{isWidth}
 use Rattle.numbers.specs.declared.Unsigned.the-variants as U
-use Rattle.numbers.proofs.BigEndian.{length-bytesOf, big-lt, big-one, bytes-part}
+use Rattle.numbers.proofs.BigEndian.{length-bytesOf, big-lt, big-one}
 use Rattle.numbers.proofs.TwosComplement.{twos-fits}
 use Rattle.numbers.proofs.Access.{width-least, unsigned-found, lies-lt}
 use Rattle.numbers.proofs.RoundTrip.{round-trip as of-width}

@@ -11,13 +11,13 @@ use lib.IntN.{ℤ}
 use lib.ListN.{length, getD}
 use Rattle.slices.specs.Parts.{part}
 use Rattle.slices.specs.Equality.{same}
-use Rattle.slices.proofs.Parts.{length-part}
+use Rattle.slices.proofs.Parts.{bytes-part, length-part}
 use Rattle.slices.proofs.Below.{below}
 use Rattle.numbers.specs.BigEndian.{bigEndian, holds, Bytes}
 use Rattle.numbers.specs.TwosComplement.{twos, fitsIn}
 use Rattle.numbers.specs.Access.{unsignedAt}
 use Rattle.numbers.specs.declared.Unsigned.the-variants as U
-use Rattle.numbers.proofs.BigEndian.{big-lt, bytes-part, pow256-mono}
+use Rattle.numbers.proofs.BigEndian.{big-lt, pow256-mono}
 use Rattle.numbers.proofs.TwosComplement.{fits-yes, fits-lt, twos-fits}
 use Rattle.numbers.proofs.Access.{unsigned-found, lies-lt, width-most}
 use Rattle.utf8.specs.Utf8.{utf8}

@@ -1,13 +1,14 @@
 -- Laws of parts, of the tests that a part lies inside a list, and of a run of stores read again. Assumes nothing.
 use mathlib.Core.Path.{_≡_, refl, sym, ap, _∙_}
-use mathlib.Core.Bool.{true, false, and-false}
+use mathlib.Core.Bool.{Bool, true, false, and-false}
 use mathlib.Core.List.{List, [], _∷_, _++_, append-assoc}
 use Prim.Native.Nat.{ℕ, suc, _+_, _-_, _≤_, _<_}
 use native.Mathlib.Numerals.{add-one, unary-clauses}
 use native.Mathlib.Omega.{arith}
-use lib.ListN.{length, getD, take, drop, set, length-drop, length-append, drop-of-length-le}
+use lib.Dec.{ltb, lit<}
+use lib.ListN.{length, getD, take, drop, set, length-drop, length-append, length-take, drop-of-length-le, List·getD-eq-default}
 use lib.Seq.{drop-cons, sets, sets-eq, getD-drop, getD-take, length-take-le, take-all, take-nil, take-at, drop-at, drop-append-add, drop-drop}
-use borrow.Author.Tests.{le-leb, lt-leb, leb-true, leb-false}
+use borrow.Author.Tests.{le-leb, lt-leb, leb-true, leb-false, ltb-true, ltb-false}
 use Rattle.slices.specs.Parts.{part, reaches, fits, front}
 
 -- a part that lies inside the list has its full size
@@ -21,6 +22,16 @@ part-cons s start size h = rw (add-one start, drop-cons s start 0 h)
 -- an element of a part is one of the list's
 pub getD-part : (s : List ℕ) (start size i : ℕ) → i < size → getD (part s start size) i 0 ≡ getD s (start + i) 0
 getD-part s start size i h = getD-take size (drop start s) i 0 h ∙ getD-drop start s i 0
+
+-- a part of bytes is bytes
+pub bytes-part : (s : List ℕ) (start size : ℕ) → ((i : ℕ) → getD s i 0 < 256) → (i : ℕ) → getD (part s start size) i 0 < 256
+bytes-part s start size h i = by (ltb i size) refl
+  where
+    by : (t : Bool) → ltb i size ≡ t → getD (part s start size) i 0 < 256
+    by true e = rw (getD-part s start size i (ltb-true i size e)) (h (start + i))
+    by false e =
+        let l : length (part s start size) ≤ i = omega (arith, length-take size (drop start s), ltb-false i size e) in
+        rw (List·getD-eq-default (part s start size) 0 l) (lit< tt)
 
 -- a part that starts past the list is empty
 pub part-past : (s : List ℕ) (start size : ℕ) → length s ≤ start → part s start size ≡ []

@@ -1,3 +1,5 @@
+pub mod Runs
+pub mod TopBits
 pub mod Sequences
 pub mod Utf8
 pub mod Encoding

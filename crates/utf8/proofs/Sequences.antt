@@ -1,12 +1,12 @@
 -- Laws of one sequence: its bits, the loop over its continuation bytes, the row of its lead byte. Assumes nothing.
 use mathlib.Core.Path.{_≡_, refl, sym, ap, _∙_}
-use mathlib.Core.Bool.{Bool, true, false, false≢true, cond, _&&_, and-eq-true-iff}
+use mathlib.Core.Bool.{Bool, true, false, false≢true, not, cond, _&&_, and-eq-true-iff}
 use mathlib.Core.List.{List, [], _∷_, _++_}
 use Prim.Native.Nat.{ℕ, zero, suc, _+_, _*_, _-_, _%_, _^_, _≤_, _<_}
 use native.Mathlib.Nat.{mod-lt, pow-suc, pow-le-pow-right}
 use native.Mathlib.Numerals.{add-one}
 use native.Mathlib.Omega.{arith}
-use borrow.Author.Tests.{eqb-true, ne-eqb, le-leb, lt-leb}
+use borrow.Author.Tests.{eqb-true, eq-eqb, ne-eqb, le-leb, lt-leb}
 use lib.Bits.{bitAnd, bitOr, and-mask, or-shifted}
 use lib.Count.{leadingZeros}
 use lib.Dec.{eqb, leb, lit<}
@@ -136,6 +136,15 @@ module _ (lead : ℕ) (s : List ℕ) where
   unfolding sequence
   no-lead a b c d =
       rw (ne-eqb (leadingOnes lead) 0 a, ne-eqb (leadingOnes lead) 2 b, ne-eqb (leadingOnes lead) 3 c, ne-eqb (leadingOnes lead) 4 d)
+
+  -- a byte that is not ASCII has leading ones
+  pub some-ones : lead < 0x100 → 0x80 ≤ lead → leadingOnes lead ≡ 0 → ⊥
+  unfolding leadingZeros
+  some-ones h l e =
+      let k : ℕ = lead - 0x80 in
+      let x : 0x80 + k ≡ lead = omega arith in
+      let f : not (eqb (leadingOnes (0x80 + k)) 0) ≡ true = below (λ b. not (eqb (leadingOnes (0x80 + b)) 0)) 0x80 refl k (omega arith) in
+      false≢true (rw (x, eq-eqb (leadingOnes lead) 0 e) at f)
 
   -- an ASCII byte is a sequence
   pub sequence-ascii : lead < 0x80 → sequence lead s ≡ 1

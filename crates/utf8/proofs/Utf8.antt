@@ -1,13 +1,16 @@
 -- Laws of UTF-8 as one sequence after another: what the check's loop and the layers above go by. Assumes nothing.
 use mathlib.Core.Path.{_≡_, refl, sym, ap, _∙_}
-use mathlib.Core.Bool.{true, false}
+use mathlib.Core.Bool.{true, false, cond}
 use mathlib.Core.List.{List, [], _∷_}
 use Prim.Native.Nat.{ℕ, zero, suc, _+_, _-_, _≤_, _<_}
+use native.Mathlib.Nat.{not-suc-le-zero}
 use native.Mathlib.Omega.{arith}
 use borrow.Author.Tests.{ne-eqb}
 use lib.ListN.{length, getD, drop, length-drop, drop-of-length-le}
-use lib.Seq.{drop-drop}
+use lib.Seq.{drop-drop, getD-drop}
 use Rattle.utf8.specs.Utf8.{sequence, sequencesFrom, utf8}
+use Rattle.utf8.specs.Private.Ascii.{asciiRun}
+use Rattle.utf8.proofs.Runs.{ascii-or-not, run-le, run-end}
 use Rattle.utf8.proofs.Sequences.{at-place, sequence-ascii, sequence-le}
 
 -- no bytes
@@ -42,12 +45,27 @@ pub utf8-ascii : (s : List ℕ) → ((i : ℕ) → i < length s → getD s i 0 <
 utf8-ascii [] h = utf8-nil
 utf8-ascii (b ∷ s) h = utf8-ascii-cons b s (h 0 (omega arith)) ∙ utf8-ascii s (λ i l. h (suc i) (omega arith))
 
+-- past a part of a run of ASCII, what follows decides
+utf8-run : (k : ℕ) (s : List ℕ) → k ≤ asciiRun s → utf8 (drop k s) ≡ utf8 s
+unfolding asciiRun
+utf8-run zero s h = refl
+utf8-run (suc k) [] h = refl
+utf8-run (suc k) (b ∷ s) h =
+    ascii-or-not (λ t. suc k ≤ cond t (suc (asciiRun s)) 0 → utf8 (drop k s) ≡ utf8 (b ∷ s)) b
+    (λ l g. utf8-run k s (omega arith) ∙ sym (utf8-ascii-cons b s l)) (λ l g. absurd (not-suc-le-zero g)) h
+
 -- ---- the check's loop
 
 -- up to a place there are whole sequences: what is left decides as the whole does
 pub record Checked (s : List ℕ) (at : ℕ) : Type 0 where
   pub within : at ≤ length s
   pub decides : utf8 (drop at s) ≡ utf8 s
+
+-- there a sequence of several bytes has to begin
+pub record Leads (s : List ℕ) (at : ℕ) : Type 0 where
+  pub before : Checked s at
+  pub inside : at < length s
+  pub high : 0x80 ≤ getD s at 0
 
 -- at the start
 pub checked : (s : List ℕ) → Checked s 0
@@ -57,6 +75,23 @@ module _ {s : List ℕ} {at : ℕ} (r : Checked s at) where
   -- nothing is left
   pub all-checked : length s ≤ at → true ≡ utf8 s
   all-checked h = sym (ap utf8 (drop-of-length-le s h) ∙ utf8-nil) ∙ r .decides
+
+  -- past a run of ASCII
+  pub past-run : Checked s (at + asciiRun (drop at s))
+  past-run =
+      let n : ℕ = asciiRun (drop at s) in
+      record {
+        within = omega (arith, r .within, run-le (drop at s), length-drop at s);
+        decides = ap utf8 (sym (drop-drop n at s)) ∙ utf8-run n (drop at s) (omega arith) ∙ r .decides;
+      }
+
+  -- which ends before the bytes do
+  pub leads-past-run : at + asciiRun (drop at s) < length s → Leads s (at + asciiRun (drop at s))
+  leads-past-run h = record {
+    before = past-run;
+    inside = h;
+    high = rw (← getD-drop at s (asciiRun (drop at s)) 0) (run-end (drop at s) (omega (arith, length-drop at s)));
+  }
 
   -- the next sequence has n bytes
   module _ (h : at < length s) (n : ℕ) (e : n ≡ sequence (getD s at 0) (drop (at + 1) s)) where
@@ -74,7 +109,3 @@ module _ {s : List ℕ} {at : ℕ} (r : Checked s at) where
               ∙ ap (λ (m : ℕ). utf8 (drop m s)) sum)
               ∙ r .decides;
         }
-
-  -- the next byte is ASCII
-  pub past-ascii : at < length s → getD s at 0 < 0x80 → Checked s (at + 1)
-  past-ascii h l = past-sequence h 1 (sym (sequence-ascii (getD s at 0) (drop (at + 1) s) l)) (omega arith)

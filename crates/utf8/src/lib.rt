@@ -1,11 +1,14 @@
-// The UTF-8 check of a String's content: document 01, "Values", and RFC 3629, section 3. It goes by whole sequences, one byte each for
-// ASCII; the count of leading one bits in the lead byte gives the length of a longer one, and its scalar value is put together by
-// shifts, so that surrogates, overlong forms and numbers above 10FFFF are seen as numbers.
+// The UTF-8 check of a String's content: document 01, "Values", and RFC 3629, section 3. It goes by runs of ASCII and by whole sequences:
+// the count of leading one bits in the lead byte gives the sequence's length, and its scalar value is put together by shifts, so that
+// surrogates, overlong forms and numbers above 10FFFF are seen as numbers.
+mod ascii; // ascii.rt: runs of ASCII
+
 ghost use mathlib.Core.Path.{_≡_};
 ghost use Prim.Native.Nat.{_+_, _*_, _%_, _^_, _≤_, _<_};
 ghost use lib.ListN.{length, getD, drop};
 ghost use Rattle.slices.specs.Parts.{part};
 ghost use Rattle.utf8.specs.Utf8.{isContinuation, isScalar, sized, sequence, utf8};
+use ascii::ascii_end;
 
 // 10xxxxxx.
 fn is_continuation(b: u8) -> bool
@@ -41,7 +44,7 @@ fn complete(bytes: &[u8], at: usize, size: usize, least: u32, bits: u8) -> usize
     requires { ⌜ (at < length (now bytes)) × (1 ≤ size) × (size ≤ 4) × (bits < 0x40) ⌝ }
     ensures { λ r. ⌜ r ≡ sized size least bits (drop (at + 1) (now (bytes .entry))) ⌝ }
 {
-    if bytes.len() - at < size {
+    if bytes.len() < at + size {
         return 0;
     }
     let mut scalar = bits as u32;
@@ -63,16 +66,13 @@ fn complete(bytes: &[u8], at: usize, size: usize, least: u32, bits: u8) -> usize
     size
 }
 
-// The size of the well-formed sequence at `at`, 0 if there is none.
+// The size of the well-formed sequence that begins at `at` with a byte that is not ASCII; 0 if there is none.
 fn sequence_at(bytes: &[u8], at: usize) -> usize
-    requires { ⌜ at < length (now bytes) ⌝ }
+    requires { ⌜ (at < length (now bytes)) × (0x80 ≤ getD (now bytes) at 0) ⌝ }
     ensures { λ r. ⌜ r ≡ sequence (getD (now (bytes .entry)) at 0) (drop (at + 1) (now (bytes .entry))) ⌝ }
 {
     let lead = bytes[at];
     let ones = u8::leading_zeros(!lead);
-    if ones == 0 {
-        return 1;
-    }
     if ones == 2 {
         return complete(bytes, at, 2, 0x80, lead & 0x1F);
     }
@@ -92,8 +92,10 @@ pub fn is_utf8(bytes: &[u8]) -> bool
     let mut at = 0;
     while at < bytes.len() {
         if bytes[at] < 0x80 {
-            at += 1;
-            continue;
+            at = ascii_end(bytes, at);
+            if bytes.len() <= at {
+                return true;
+            }
         }
         let size = sequence_at(bytes, at);
         if size == 0 {
@@ -111,9 +113,9 @@ pub fn is_utf8_part(bytes: &[u8], start: usize, size: usize) -> bool
     if bytes.len() <= start {
         return true;
     }
-    if bytes.len() - start <= size {
-        return is_utf8(&bytes[start..]);
+    let mut end = bytes.len();
+    if size < end - start {
+        end = start + size;
     }
-    let end = start + size;
     is_utf8(&bytes[start..end])
 }

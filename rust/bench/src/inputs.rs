@@ -40,10 +40,12 @@ pub fn pull() -> Vec<u8> {
     Message(vec![0xB1, 0x3F]).dictionary(1).string("n").integer(1_000).0
 }
 
+/// A query as drivers send it.
+pub const QUERY: &str = "MATCH (p:Part {identifier: $parameter_0})-[:STRAP]->(s) RETURN s.name, s.file";
+
 /// A RUN as drivers send it, of about 200 bytes.
 pub fn typical_run() -> Vec<u8> {
-    let query = "MATCH (p:Part {identifier: $parameter_0})-[:STRAP]->(s) RETURN s.name, s.file";
-    run(query, 4, 20).dictionary(2).string("mode").string("r").string("db").string("parts").0
+    run(QUERY, 4, 20).dictionary(2).string("mode").string("r").string("db").string("parts").0
 }
 
 /// The longest RUN with 200 parameters: its query fills what they leave.
@@ -63,6 +65,18 @@ pub fn most_keys() -> Vec<u8> {
     }
     message
 }
+
+/// Texts by how much of them is ASCII: all, with short runs between other characters, with long runs, nothing.
+pub const TEXTS: [(&str, &str); 4] = [
+    ("ASCII", "Part 4711, rev. C; "),
+    ("mixed text", "Düse 4 für 部品 12,50 € 🜁 "),
+    (
+        "German prose",
+        "Die Düse wird über einen Stift geführt; größere Öffnungen sind nur nach Rücksprache möglich. Prüfschärfe: 0,05 µm, \
+         Oberfläche geätzt. Maße in Zoll gelten nicht für Märkte außerhalb der EU. Übrige Werte: ±3 %, Stückzahl ≥ 40. ",
+    ),
+    ("CJK", "部品番号"),
+];
 
 /// The longest message that is one String, of `text` repeated.
 pub fn one_string(text: &str) -> Vec<u8> {

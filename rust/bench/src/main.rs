@@ -1,5 +1,6 @@
 //! Prints how long the library takes against the reference and against the standard library, each ratio of one run.
 
+mod check;
 mod inputs;
 mod measure;
 
@@ -14,7 +15,8 @@ fn main() {
     println!("{:70} {:>11} {:>11} {:>7}", "", "library", "other", "ratio");
     values();
     requests();
-    text();
+    strings();
+    texts();
     frames();
     rounds();
 }
@@ -81,12 +83,10 @@ fn requests() {
 }
 
 /// A message that is one String, against the check of its content alone.
-fn text() {
-    for (name, text) in
-        [("ASCII", "Part 4711, rev. C; "), ("mixed text", "Düse 4 für 部品 12,50 € 🜁 "), ("CJK", "部品番号")]
-    {
+fn strings() {
+    for (name, text) in inputs::TEXTS {
         let message = inputs::one_string(text);
-        let check = compare(
+        let reading = compare(
             || {
                 let _ = black_box(library::read_message(black_box(&message)));
             },
@@ -94,7 +94,28 @@ fn text() {
                 let _ = black_box(std::str::from_utf8(black_box(&message[3..])));
             },
         );
-        row(&format!("String of 16 KB {name}"), "std::str::from_utf8", check);
+        row(&format!("String of 16 KB {name}"), "std::str::from_utf8", reading);
+    }
+}
+
+/// The check alone, against the one before it and that of the standard library.
+fn texts() {
+    let query = inputs::QUERY.as_bytes();
+    let short = (1..=15).chain([60]).map(|length| (format!("{length} bytes of ASCII"), query[..length].to_vec()));
+    let long = inputs::TEXTS.map(|(name, text)| (format!("16 KB {name}"), inputs::one_string(text).split_off(3)));
+    for (name, text) in long.into_iter().chain(short) {
+        assert!(check::proved(&text) && check::old::is_utf8(&text) && std::str::from_utf8(&text).is_ok());
+        let proved = || {
+            black_box(check::proved(black_box(&text)));
+        };
+        let old = || {
+            black_box(check::old::is_utf8(black_box(&text)));
+        };
+        let std = || {
+            let _ = black_box(std::str::from_utf8(black_box(&text)));
+        };
+        row(&format!("check of {name}"), "old check", compare(proved, old));
+        row(&format!("check of {name}"), "std::str::from_utf8", compare(proved, std));
     }
 }
 

@@ -222,6 +222,25 @@ impl<'s, A: Side, B: Side> Comparison<'s, A, B> {
         self.request_of(&message)
     }
 
+    /// Texts of a length, each with one thing that is not ASCII at one place: packed, read alone, and read with another
+    /// value behind it. A Dictionary's marker would continue a sequence that the text's end cuts off.
+    pub fn texts(&mut self, length: usize) -> std::result::Result<(), Difference> {
+        for text in generate::odd_texts(length) {
+            self.equal_writing(
+                || format!("packing {}", hex(&text)),
+                length + 3,
+                |side, buffer| side.pack(Item::String(&text), buffer, 0),
+                |side, buffer| side.pack(Item::String(&text), buffer, 0),
+            )?;
+            let string = generate::string(&text);
+            self.value_of(&string)?;
+            for behind in [0xA0, 0xC0] {
+                self.value_of(&[&[0x92], &string[..], &[behind]].concat())?;
+            }
+        }
+        Ok(())
+    }
+
     /// The whole value, and then each value in it.
     fn value_of(&mut self, message: &[u8]) -> std::result::Result<(), Difference> {
         let (left, right) = (self.left.read_message(message), self.right.read_message(message));

@@ -181,6 +181,34 @@ pub fn broken_text(random: &mut Random) -> Vec<u8> {
     bytes
 }
 
+/// The longest text that is tried with something odd at every place.
+pub const ODD_TEXTS: usize = 80;
+
+/// ASCII of a length, and the same with something odd at each place: a character of two, three or four bytes, or one damaged byte.
+pub fn odd_texts(length: usize) -> impl Iterator<Item = Vec<u8>> {
+    let ascii: Vec<u8> = (b' '..=b'~').cycle().take(length).collect();
+    let odd: [&[u8]; 8] =
+        ["\u{80}".as_bytes(), "€".as_bytes(), "\u{10FFFF}".as_bytes(), &[0x80], &[0xBF], &[0xC3], &[0xE2], &[0xFF]];
+    let changed = (0..length).flat_map(move |place| odd.map(|odd| (place, odd)));
+    let fits = changed.filter(move |(place, odd)| place + odd.len() <= length);
+    let texts = fits.map({
+        let ascii = ascii.clone();
+        move |(place, odd)| {
+            let mut text = ascii.clone();
+            text[place..place + odd.len()].copy_from_slice(odd);
+            text
+        }
+    });
+    texts.chain([ascii])
+}
+
+/// A String of that content.
+pub fn string(content: &[u8]) -> Vec<u8> {
+    let size = content.len() as u8;
+    let marker = if size < 16 { vec![0x80 | size] } else { vec![0xD0, size] };
+    [&marker, content].concat()
+}
+
 /// One value, short or long.
 pub fn message(random: &mut Random) -> Vec<u8> {
     let budget = random.pick(&[20, 60, 200, 1_000]);

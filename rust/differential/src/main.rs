@@ -1,5 +1,5 @@
-//! Asks the proved library and the reference the same, on random inputs from fixed seeds, and fails at the first
-//! difference. `differential [SEED]` tries other inputs.
+//! Asks the proved library and the reference the same, on random inputs from fixed seeds and on texts with something odd
+//! at every place, and fails at the first difference. `differential [SEED]` tries other inputs.
 
 mod compare;
 mod complaints;
@@ -15,7 +15,7 @@ use sides::{Reference, Side};
 use std::process::ExitCode;
 use std::time::Instant;
 
-/// Every part, with a share of its cases.
+/// Every part, with a share of its random cases.
 fn compare<A: Side, B: Side>(left: &A, right: &B, seed: u64, share: u64) -> Result<Tally, Difference> {
     type Part<'s, A, B> = (&'static str, u64, fn(&mut Comparison<'s, A, B>) -> Result<(), Difference>);
     let parts: [Part<A, B>; 8] = [
@@ -29,17 +29,26 @@ fn compare<A: Side, B: Side>(left: &A, right: &B, seed: u64, share: u64) -> Resu
         ("conversations", 20_000, Comparison::conversation),
     ];
     let mut total = Tally::default();
+    let mut add = |name, cases, start: Instant, tally: Tally| {
+        let (accepted, refused, seconds) =
+            (tally.accepted, tally.refused.values().sum::<u64>(), start.elapsed().as_secs_f64());
+        println!("{name:14} {cases:>7} cases {accepted:>8} accepted {refused:>8} refused {seconds:7.2} s");
+        total.add(tally);
+    };
     for (index, (name, cases, part)) in parts.into_iter().enumerate() {
         let start = Instant::now();
         let mut comparison = Comparison::new(left, right, seed + index as u64);
         for _ in 0..cases / share {
             part(&mut comparison)?;
         }
-        let Tally { accepted, refused, .. } = &comparison.tally;
-        let (refused, seconds) = (refused.values().sum::<u64>(), start.elapsed().as_secs_f64());
-        println!("{name:14} {:>7} cases {accepted:>8} accepted {refused:>8} refused {seconds:7.2} s", cases / share);
-        total.add(comparison.tally);
+        add(name, cases / share, start, comparison.tally);
     }
+    let start = Instant::now();
+    let mut comparison = Comparison::new(left, right, seed);
+    for length in 0..=generate::ODD_TEXTS {
+        comparison.texts(length)?;
+    }
+    add("texts", generate::ODD_TEXTS as u64 + 1, start, comparison.tally);
     Ok(total)
 }
 
@@ -137,9 +146,27 @@ mod tests {
         IgnoresHelloInFailed,
         HandsOverCommitInFailed,
         IgnoredBeginSetsNext,
+        MissesFourthOfEight,
+        PassesNineForEight,
+        ReachesPastTheText,
     }
 
     impl Fault {
+        /// A text whose check is at fault, as a side with this fault sees it, and what lies behind it.
+        fn seen(self, text: &mut [u8], behind: &[u8]) {
+            let whole = text.len() - text.len() % 8;
+            match self {
+                Fault::MissesFourthOfEight => {
+                    text[..whole].iter_mut().skip(3).step_by(8).for_each(|byte| *byte &= 0x7F)
+                }
+                Fault::PassesNineForEight => text.iter_mut().skip(8).step_by(9).for_each(|byte| *byte &= 0x7F),
+                Fault::ReachesPastTheText if behind.first().is_some_and(|byte| byte >> 6 == 2) => {
+                    text.iter_mut().rev().take(1).for_each(|byte| *byte &= 0x7F);
+                }
+                _ => {}
+            }
+        }
+
         /// A take, where this fault changes it.
         fn take(self, image: &mut Image) -> Option<Result<Reply>> {
             let turned = |turn| Some(Ok(Reply::Turned(turn)));
@@ -200,7 +227,17 @@ mod tests {
         }
 
         fn read_message(&self, message: &[u8]) -> Result<Found> {
-            let mut found = Reference.read_message(message).map_err(|mut refusal| {
+            let mut message = message.to_vec();
+            if let Err(Refusal { number: 10, place }) = Reference.read_message(&message) {
+                let (start, size) = match message[place] {
+                    marker @ 0x80..=0x8F => (place + 1, marker & 0x0F),
+                    0xD0 => (place + 2, message[place + 1]),
+                    _ => (place, 0),
+                };
+                let (text, behind) = message[start..].split_at_mut(usize::from(size));
+                self.seen(text, behind);
+            }
+            let mut found = Reference.read_message(&message).map_err(|mut refusal| {
                 refusal.place += usize::from(*self == Fault::PlaceOfRepeat && refusal.number == 12);
                 refusal
             })?;
@@ -269,6 +306,14 @@ mod tests {
     #[test]
     fn equal_sides_agree() {
         assert!(compare(&Reference, &Reference, 7, 20).is_ok());
+    }
+
+    #[test]
+    fn texts_find_the_faults_of_their_check() {
+        for fault in [Fault::MissesFourthOfEight, Fault::PassesNineForEight, Fault::ReachesPastTheText] {
+            let mut comparison = Comparison::new(&fault, &Reference, 7);
+            assert!((0..=generate::ODD_TEXTS).any(|length| comparison.texts(length).is_err()), "{fault:?}");
+        }
     }
 
     #[test]
