@@ -110,24 +110,24 @@ past s at k h = rw (← drop-drop k at s) (run-drop k (drop at s) h)
 pub tested : (s : List ℕ) (at k : ℕ) → at + k ≤ length s → allBelow 0x80 (part s at k) ≡ true → k ≤ asciiRun (drop at s)
 tested s at k h e = all-run k (drop at s) (omega (arith, length-drop at s)) e
 
--- the run from `start` on ends where that from `at` on does
-pub record Goes (s : List ℕ) (start at : ℕ) : Type 0 where
+-- a place in the run from `start` on, or at its end: what is left of it ends where it does
+pub record InRun (s : List ℕ) (start at : ℕ) : Type 0 where
   pub within : at ≤ length s
   pub ends : at + asciiRun (drop at s) ≡ start + asciiRun (drop start s)
 
-pub goes : (s : List ℕ) (start : ℕ) → start ≤ length s → Goes s start start
-goes s start h = record { within = h; ends = refl }
+pub in-run : (s : List ℕ) (start : ℕ) → start ≤ length s → InRun s start start
+in-run s start h = record { within = h; ends = refl }
 
--- its first byte
-pub begins : (s : List ℕ) (start : ℕ) → start < length s → getD s start 0 < 0x80 → 1 ≤ asciiRun (drop start s)
-begins s start h l =
+-- its first byte is in it
+pub run-begins : (s : List ℕ) (start : ℕ) → start < length s → getD s start 0 < 0x80 → 1 ≤ asciiRun (drop start s)
+run-begins s start h l =
     let e : start + 0 ≡ start = omega arith in
     run-more (drop start s) 0 (omega (arith, length-drop start s)) (rw (getD-drop start s 0 0, e) l) (omega arith)
 
-module _ {s : List ℕ} {start at : ℕ} (r : Goes s start at) where
+module _ {s : List ℕ} {start at : ℕ} (r : InRun s start at) where
   -- past k bytes of it
-  pub goes-on : (k : ℕ) → k ≤ asciiRun (drop at s) → Goes s start (at + k)
-  goes-on k h = record { within = omega (arith, run-le (drop at s), length-drop at s); ends = omega (arith, r .ends, past s at k h) }
+  pub in-run-past : (k : ℕ) → k ≤ asciiRun (drop at s) → InRun s start (at + k)
+  in-run-past k h = record { within = omega (arith, run-le (drop at s), length-drop at s); ends = omega (arith, r .ends, past s at k h) }
 
   -- it ends in the next k + 1 bytes: k of them tell where
   pub ends-among : (k : ℕ) → allBelow 0x80 (part s at (k + 1)) ≡ false → at + asciiRun (part s at k) ≡ start + asciiRun (drop start s)

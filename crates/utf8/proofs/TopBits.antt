@@ -44,14 +44,17 @@ top-bit b h = ascii-or-not (λ t. eqb (bitAnd b 0x80) 0 ≡ t) b (λ l. eq-eqb (
     high : 0x80 ≤ b → bitAnd b 0x80 ≡ 0 → ⊥
     high l z = let o : b / 0x80 ≡ 1 = omega arith in omega (arith, sym z ∙ e ∙ ap (λ (q : ℕ). q % 2 * 0x80) o)
 
--- a number of two parts is 0 exactly if both are
-parts-zero : (x y : ℕ) → eqb (x * 0x100 + y) 0 ≡ (eqb y 0 && eqb x 0)
-parts-zero x y = go (eqb y 0) (eqb x 0) refl refl
+-- a number is 0 exactly if two others are
+both-zero : (n x y : ℕ) → (x ≡ 0 → y ≡ 0 → n ≡ 0) → (n ≡ 0 → (x ≡ 0) × (y ≡ 0)) → eqb n 0 ≡ (eqb x 0 && eqb y 0)
+both-zero n x y join split = go (eqb x 0) (eqb y 0) refl refl
   where
-    go : (p q : Bool) → eqb y 0 ≡ p → eqb x 0 ≡ q → eqb (x * 0x100 + y) 0 ≡ (p && q)
-    go true true e f = eq-eqb (x * 0x100 + y) 0 (omega (arith, eqb-true y 0 e, eqb-true x 0 f))
-    go true false e f = ne-eqb (x * 0x100 + y) 0 (λ z. eqb-false x 0 f (omega arith))
-    go false q e f = ne-eqb (x * 0x100 + y) 0 (λ z. eqb-false y 0 e (omega arith))
+    go : (p q : Bool) → eqb x 0 ≡ p → eqb y 0 ≡ q → eqb n 0 ≡ (p && q)
+    go true true e f = eq-eqb n 0 (join (eqb-true x 0 e) (eqb-true y 0 f))
+    go true false e f = ne-eqb n 0 (λ z. eqb-false y 0 f (split z .1))
+    go false q e f = ne-eqb n 0 (λ z. eqb-false x 0 e (split z .0))
+
+parts-zero : (x y : ℕ) → eqb (x * 0x100 + y) 0 ≡ (eqb y 0 && eqb x 0)
+parts-zero x y = both-zero (x * 0x100 + y) y x (λ e f. omega arith) (λ z. (omega arith, omega arith))
 
 -- of any number of bytes
 masked : (s : List ℕ) → ((i : ℕ) → getD s i 0 < 0x100) → eqb (bitAnd (littleEndian s) (topBits (length s))) 0 ≡ allBelow 0x80 s
@@ -93,14 +96,10 @@ and-or (suc k) a b m h =
     ∙ ap₂ max (sym (and-mod a m 1)) (sym (and-mod b m 1)))
     ∙ sym (or-step (bitAnd a m) (bitAnd b m))
 
--- an or is 0 exactly if both are
 or-zero : (x y : ℕ) → eqb (bitOr x y) 0 ≡ (eqb x 0 && eqb y 0)
-or-zero x y = go (eqb x 0) (eqb y 0) refl refl
-  where
-    go : (p q : Bool) → eqb x 0 ≡ p → eqb y 0 ≡ q → eqb (bitOr x y) 0 ≡ (p && q)
-    go true true e f = eq-eqb (bitOr x y) 0 (omega (arith, or-add-and x y, eqb-true x 0 e, eqb-true y 0 f))
-    go true false e f = ne-eqb (bitOr x y) 0 (λ z. eqb-false y 0 f (omega (arith, or-add-and x y, and-le-l x y)))
-    go false q e f = ne-eqb (bitOr x y) 0 (λ z. eqb-false x 0 e (omega (arith, or-add-and x y, and-le-r x y)))
+or-zero x y =
+    both-zero (bitOr x y) x y (λ e f. omega (arith, or-add-and x y))
+    (λ z. (omega (arith, or-add-and x y, and-le-r x y), omega (arith, or-add-and x y, and-le-l x y)))
 
 top-bits-lt : (n : ℕ) → topBits n < 2 ^ (8 * n)
 unfolding topBits

@@ -1,4 +1,4 @@
--- `utf8::ascii::ascii_end` meets its contract. The loop's invariant: the run goes on at `at`, and the list has eight bytes. Assumes nothing.
+-- `utf8::ascii::ascii_end` meets its contract. The loop's invariant: `at` lies in the run, and the list has eight bytes. Assumes nothing.
 use mathlib.Core.Path.{_≡_, sym, ap, _∙_}
 use Prim.Native.Nat.{ℕ, _+_, _-_, _*_, _/_, _≤_}
 use native.Mathlib.Omega.{arith}
@@ -7,12 +7,12 @@ use borrow.Author.Tests.{not-true, not-false}
 use lib.ListN.{length, drop}
 use Rattle.slices.specs.Parts.{part}
 use Rattle.utf8.specs.Private.Ascii.{asciiRun}
-use Rattle.utf8.proofs.Runs.{Goes, goes, begins, goes-on, tested, ends-among, ends-in-rest, ends-with-list}
+use Rattle.utf8.proofs.Runs.{InRun, in-run, run-begins, in-run-past, tested, ends-among, ends-in-rest, ends-with-list}
 use Rattle.utf8.proofs.ascii.ascii_end.Statement.{statement}
 use Rattle.utf8.proofs.ascii.ascii_end.Tie as tie
 
 abbrev Inv-loop : tie.InvT-loop
-Inv-loop bytes start at₀ at = Goes bytes start at × (8 ≤ length bytes)
+Inv-loop bytes start at₀ at = InRun bytes start at × (8 ≤ length bytes)
 
 abbrev μ-loop : tie.MeasureT-loop
 μ-loop bytes start at₀ at = length bytes - at
@@ -22,13 +22,13 @@ returns c =
     let r = c .before .before .before in
     let s = r .args .bytes .now in
     let e : length s - r .args .start - 1 ≡ length s - (r .args .start + 1) = omega arith in
-    let first = goes-on (goes s (r .args .start) (omega arith)) 1 (begins s (r .args .start) (r .pre .0) (r .pre .1)) in
+    let first = in-run-past (in-run s (r .args .start) (omega arith)) 1 (run-begins s (r .args .start) (r .pre .0) (r .pre .1)) in
     c .past-bytes .ensures ∙ ap (λ (k : ℕ). r .args .start + 1 + asciiRun (part s (r .args .start + 1) k)) e ∙ ends-in-rest first
 
 loop-holds : tie.Need-loop-holds Inv-loop μ-loop
 loop-holds c =
     let r = c .before .before in
-    (goes (r .args .bytes .now) (r .args .start) (omega arith), omega arith)
+    (in-run (r .args .bytes .now) (r .args .start) (omega arith), omega arith)
 
 sub-loop : tie.Need-sub-loop Inv-loop μ-loop
 sub-loop c = c .loop .inv .0 .within
@@ -55,8 +55,8 @@ loop-again c =
     let l = c .before .before .before .before .loop in
     let s = c .before .before .before .before .before .before .before .args .bytes .now in
     let clear = sym (c .before .before .is-ascii-word .ensures) ∙ not-false _ (c .before .if2 .left) in
-    let eight = goes-on (l .inv .0) 8 (tested s (l .at) 8 (omega (arith, l .inv .0 .within)) clear) in
-    let blocks = goes-on eight (asciiRun (drop (l .at + 8) s) / 64 * 64) (omega arith) in
+    let eight = in-run-past (l .inv .0) 8 (tested s (l .at) 8 (omega (arith, l .inv .0 .within)) clear) in
+    let blocks = in-run-past eight (asciiRun (drop (l .at + 8) s) / 64 * 64) (omega arith) in
     (rw (c .past-blocks .ensures) blocks, l .inv .1)
 
 sub-is-ascii-word : tie.Need-sub-is-ascii-word Inv-loop μ-loop
