@@ -76,7 +76,7 @@ run-take (suc k) (b ∷ s) h =
 
 -- ---- a run and what is tested at once
 
--- k bytes are ASCII
+-- k bytes are ASCII: the run has them
 pub all-run : (k : ℕ) (s : List ℕ) → k ≤ length s → allBelow 0x80 (take k s) ≡ true → k ≤ asciiRun s
 unfolding asciiRun allBelow
 all-run zero s h e = omega arith
@@ -85,7 +85,7 @@ all-run (suc k) (b ∷ s) h e =
     ascii-or-not (λ t. (t && allBelow 0x80 (take k s)) ≡ true → suc k ≤ cond t (suc (asciiRun s)) 0) b
     (λ l g. omega (arith, all-run k s (omega arith) g)) (λ l g. absurd (false≢true g)) e
 
--- one of them is not
+-- one of them is not: the run ends before k
 pub not-all-run : (k : ℕ) (s : List ℕ) → allBelow 0x80 (take k s) ≡ false → asciiRun s < k
 unfolding asciiRun allBelow
 not-all-run zero s e = absurd (true≢false e)

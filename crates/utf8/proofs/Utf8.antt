@@ -7,7 +7,8 @@ use native.Mathlib.Nat.{not-suc-le-zero}
 use native.Mathlib.Omega.{arith}
 use borrow.Author.Tests.{ne-eqb}
 use lib.ListN.{length, getD, drop, length-drop, drop-of-length-le}
-use lib.Seq.{drop-drop, getD-drop}
+use lib.Seq.{drop-drop, getD-drop, take-length}
+use Rattle.slices.specs.Parts.{part}
 use Rattle.utf8.specs.Utf8.{sequence, sequencesFrom, utf8}
 use Rattle.utf8.specs.Private.Ascii.{asciiRun}
 use Rattle.utf8.proofs.Runs.{ascii-or-not, run-le, run-end}
@@ -40,11 +41,6 @@ utf8-ascii-cons b s h =
     let e : sequence b s ≡ 1 = sequence-ascii b s h in
     utf8-cons b s (omega arith) ∙ ap (λ (n : ℕ). utf8 (drop (n - 1) s)) e
 
--- ASCII is UTF-8
-pub utf8-ascii : (s : List ℕ) → ((i : ℕ) → i < length s → getD s i 0 < 0x80) → utf8 s ≡ true
-utf8-ascii [] h = utf8-nil
-utf8-ascii (b ∷ s) h = utf8-ascii-cons b s (h 0 (omega arith)) ∙ utf8-ascii s (λ i l. h (suc i) (omega arith))
-
 -- past a part of a run of ASCII, what follows decides
 utf8-run : (k : ℕ) (s : List ℕ) → k ≤ asciiRun s → utf8 (drop k s) ≡ utf8 s
 unfolding asciiRun
@@ -76,7 +72,7 @@ module _ {s : List ℕ} {at : ℕ} (r : Checked s at) where
   pub all-checked : length s ≤ at → true ≡ utf8 s
   all-checked h = sym (ap utf8 (drop-of-length-le s h) ∙ utf8-nil) ∙ r .decides
 
-  -- past a run of ASCII
+  -- past the run of ASCII from there on
   pub past-run : Checked s (at + asciiRun (drop at s))
   past-run =
       let n : ℕ = asciiRun (drop at s) in
@@ -109,3 +105,7 @@ module _ {s : List ℕ} {at : ℕ} (r : Checked s at) where
               ∙ ap (λ (m : ℕ). utf8 (drop m s)) sum)
               ∙ r .decides;
         }
+
+-- past the run of ASCII at the front of all bytes
+pub past-front : (s : List ℕ) → Checked s (0 + asciiRun (part s 0 (length s)))
+past-front s = rw (take-length s) (past-run (checked s))

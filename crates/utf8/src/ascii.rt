@@ -1,4 +1,4 @@
-// Runs of ASCII: passed over in blocks of 64 bytes, then eight by eight, by one test of all their top bits.
+// Runs of ASCII: passed over eight bytes at once and in blocks of 64, each by one test of all their top bits.
 ghost use mathlib.Core.Path.{_≡_};
 ghost use Prim.Native.Nat.{_+_, _*_, _/_, _≤_, _<_};
 ghost use lib.ListN.{length, getD, drop};
@@ -59,8 +59,8 @@ fn past_blocks(bytes: &[u8], start: usize) -> usize
     at
 }
 
-// Past the ASCII bytes among the `count` from `start` on, one by one. Where the count is named, the loop is unrolled.
-fn past_bytes(bytes: &[u8], start: usize, count: usize) -> usize
+// Past the run of ASCII at the front of the `count` bytes from `start` on, one by one. Where the count is small for sure, the loop is unrolled.
+pub fn past_bytes(bytes: &[u8], start: usize, count: usize) -> usize
     requires { ⌜ start + count ≤ length (now bytes) ⌝ }
     ensures { λ r. ⌜ r ≡ start + asciiRun (part (now (bytes .entry)) start count) ⌝ }
 {
@@ -74,8 +74,8 @@ fn past_bytes(bytes: &[u8], start: usize, count: usize) -> usize
     start + count
 }
 
-// Where the run of ASCII that begins at `start` ends. Where eight bytes are not all ASCII, seven of them tell where it ends. A rest of less
-// than eight is tested together with bytes before it, which were passed already: one test for up to seven bytes.
+// Where the run of ASCII ends that begins at `start`, with a byte that the caller has seen. Where eight bytes are not all ASCII, seven of them
+// tell where it ends. A rest of less than eight is tested together with bytes before it, which were passed already: one test for up to seven.
 pub fn ascii_end(bytes: &[u8], start: usize) -> usize
     requires { ⌜ (start < length (now bytes)) × (getD (now bytes) start 0 < 0x80) ⌝ }
     ensures { λ r. ⌜ r ≡ start + asciiRun (drop start (now (bytes .entry))) ⌝ }

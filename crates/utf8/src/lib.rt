@@ -9,6 +9,7 @@ ghost use lib.ListN.{length, getD, drop};
 ghost use Rattle.slices.specs.Parts.{part};
 ghost use Rattle.utf8.specs.Utf8.{isContinuation, isScalar, sized, sequence, utf8};
 use ascii::ascii_end;
+use ascii::past_bytes;
 
 // 10xxxxxx.
 fn is_continuation(b: u8) -> bool
@@ -90,6 +91,10 @@ pub fn is_utf8(bytes: &[u8]) -> bool
     ensures { λ r. ⌜ r ≡ utf8 (now (bytes .entry)) ⌝ }
 {
     let mut at = 0;
+    // Names and words are short: of less than eight bytes the front is passed over in a loop of its own, which is unrolled.
+    if bytes.len() < 8 {
+        at = past_bytes(bytes, 0, bytes.len());
+    }
     while at < bytes.len() {
         if bytes[at] < 0x80 {
             at = ascii_end(bytes, at);

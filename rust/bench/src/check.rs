@@ -10,7 +10,7 @@ pub fn proved(text: &[u8]) -> bool {
     unsafe { utf8_is_utf8(text.as_ptr(), text.len()) }
 }
 
-/// The check as it was before it passed over eight bytes at once: line by line the proved code of then, in Rust.
+/// The check as it was before it passed over eight bytes at once: function by function the proved code of then, in Rust.
 pub mod old {
     fn is_continuation(b: u8) -> bool {
         b >> 6 == 2
@@ -63,6 +63,7 @@ pub mod old {
         }
     }
 
+    // A call, as the proved check is.
     #[inline(never)]
     pub fn is_utf8(bytes: &[u8]) -> bool {
         let mut at = 0;

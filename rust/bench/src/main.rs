@@ -1,4 +1,5 @@
-//! Prints how long the library takes against the reference and against the standard library, each ratio of one run.
+//! Prints how long the library takes against the reference and against the standard library, and the UTF-8 check against
+//! the one before it, each ratio of one run.
 
 mod check;
 mod inputs;
@@ -101,10 +102,14 @@ fn strings() {
 /// The check alone, against the one before it and that of the standard library.
 fn texts() {
     let query = inputs::QUERY.as_bytes();
-    let short = (1..=15).chain([60]).map(|length| (format!("{length} bytes of ASCII"), query[..length].to_vec()));
+    let short = (1..=15).chain([60]).map(|length| (format!("ASCII of length {length}"), query[..length].to_vec()));
     let long = inputs::TEXTS.map(|(name, text)| (format!("16 KB {name}"), inputs::one_string(text).split_off(3)));
     for (name, text) in long.into_iter().chain(short) {
-        assert!(check::proved(&text) && check::old::is_utf8(&text) && std::str::from_utf8(&text).is_ok());
+        let cut = &text[..text.len() - 1];
+        for text in [&text[..], cut, &[cut, &[0x80]].concat()] {
+            let valid = std::str::from_utf8(text).is_ok();
+            assert!(check::proved(text) == valid && check::old::is_utf8(text) == valid);
+        }
         let proved = || {
             black_box(check::proved(black_box(&text)));
         };

@@ -224,8 +224,11 @@ impl<'s, A: Side, B: Side> Comparison<'s, A, B> {
 
     /// Texts of a length, each with one thing that is not ASCII at one place: packed, read alone, and read with another
     /// value behind it. A Dictionary's marker would continue a sequence that the text's end cuts off.
-    pub fn texts(&mut self, length: usize) -> std::result::Result<(), Difference> {
+    /// How many there were.
+    pub fn texts(&mut self, length: usize) -> std::result::Result<u64, Difference> {
+        let mut count = 0;
         for text in generate::odd_texts(length) {
+            count += 1;
             self.equal_writing(
                 || format!("packing {}", hex(&text)),
                 length + 3,
@@ -238,7 +241,7 @@ impl<'s, A: Side, B: Side> Comparison<'s, A, B> {
                 self.value_of(&[&[0x92], &string[..], &[behind]].concat())?;
             }
         }
-        Ok(())
+        Ok(count)
     }
 
     /// The whole value, and then each value in it.

@@ -202,7 +202,7 @@ pub fn odd_texts(length: usize) -> impl Iterator<Item = Vec<u8>> {
     texts.chain([ascii])
 }
 
-/// A String of that content.
+/// A String of that content, which has at most 255 bytes.
 pub fn string(content: &[u8]) -> Vec<u8> {
     let size = content.len() as u8;
     let marker = if size < 16 { vec![0x80 | size] } else { vec![0xD0, size] };

@@ -45,10 +45,11 @@ fn compare<A: Side, B: Side>(left: &A, right: &B, seed: u64, share: u64) -> Resu
     }
     let start = Instant::now();
     let mut comparison = Comparison::new(left, right, seed);
+    let mut texts = 0;
     for length in 0..=generate::ODD_TEXTS {
-        comparison.texts(length)?;
+        texts += comparison.texts(length)?;
     }
-    add("texts", generate::ODD_TEXTS as u64 + 1, start, comparison.tally);
+    add("texts", texts, start, comparison.tally);
     Ok(total)
 }
 
@@ -152,7 +153,7 @@ mod tests {
     }
 
     impl Fault {
-        /// A text whose check is at fault, as a side with this fault sees it, and what lies behind it.
+        /// Makes of a text that is refused what a check with this fault takes it for; `behind` follows it in the message.
         fn seen(self, text: &mut [u8], behind: &[u8]) {
             let whole = text.len() - text.len() % 8;
             match self {

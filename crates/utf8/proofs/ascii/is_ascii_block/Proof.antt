@@ -1,4 +1,5 @@
--- `utf8::ascii::is_ascii_block` meets its contract. The loop's invariant: what i words put together show, their bytes are. Assumes nothing.
+-- `utf8::ascii::is_ascii_block` meets its contract. The loop's invariant: the or of i words has no top bit
+-- set exactly if their bytes are ASCII. Assumes nothing.
 use mathlib.Core.Path.{_≡_, refl}
 use Prim.Native.Nat.{_+_, _-_, _*_, _≤_}
 use native.Mathlib.Omega.{arith}
