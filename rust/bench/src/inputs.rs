@@ -78,6 +78,9 @@ pub const TEXTS: [(&str, &str); 4] = [
     ("CJK", "部品番号"),
 ];
 
+/// Texts of up to 15 bytes that are not all ASCII.
+pub const SHORT_TEXTS: [&str; 5] = ["µm", "部品", "Größe", "für 5 €", "Düse 4 für"];
+
 /// The longest message that is one String, of `text` repeated.
 pub fn one_string(text: &str) -> Vec<u8> {
     let mut content = text.repeat(16_381 / text.len());

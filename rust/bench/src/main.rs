@@ -104,7 +104,8 @@ fn texts() {
     let query = inputs::QUERY.as_bytes();
     let short = (1..=15).chain([60]).map(|length| (format!("ASCII of length {length}"), query[..length].to_vec()));
     let long = inputs::TEXTS.map(|(name, text)| (format!("16 KB {name}"), inputs::one_string(text).split_off(3)));
-    for (name, text) in long.into_iter().chain(short) {
+    let other = inputs::SHORT_TEXTS.map(|text| (format!("{text:?}, {} bytes", text.len()), text.as_bytes().to_vec()));
+    for (name, text) in long.into_iter().chain(short).chain(other) {
         let cut = &text[..text.len() - 1];
         for text in [&text[..], cut, &[cut, &[0x80]].concat()] {
             let valid = std::str::from_utf8(text).is_ok();
