@@ -124,6 +124,12 @@ run-begins s start h l =
     let e : start + 0 ≡ start = omega arith in
     run-more (drop start s) 0 (omega (arith, length-drop start s)) (rw (getD-drop start s 0 0, e) l) (omega arith)
 
+-- the byte behind the first is not ASCII: the run has one byte
+pub run-of-one : (s : List ℕ) (start : ℕ) → start < length s → getD s start 0 < 0x80 → 0x80 ≤ getD s (start + 1) 0
+    → 1 ≡ asciiRun (drop start s)
+run-of-one s start h l g =
+    omega (arith, run-begins s start h l, run-stops (drop start s) 1 (rw (getD-drop start s 1 0) g))
+
 module _ {s : List ℕ} {start at : ℕ} (r : InRun s start at) where
   -- past k bytes of it
   pub in-run-past : (k : ℕ) → k ≤ asciiRun (drop at s) → InRun s start (at + k)

@@ -7,8 +7,7 @@ use native.Mathlib.Nat.{not-suc-le-zero}
 use native.Mathlib.Omega.{arith}
 use borrow.Author.Tests.{ne-eqb}
 use lib.ListN.{length, getD, drop, length-drop, drop-of-length-le}
-use lib.Seq.{drop-drop, getD-drop, take-length}
-use Rattle.slices.specs.Parts.{part}
+use lib.Seq.{drop-drop, getD-drop}
 use Rattle.utf8.specs.Utf8.{sequence, sequencesFrom, utf8}
 use Rattle.utf8.specs.Private.Ascii.{asciiRun}
 use Rattle.utf8.proofs.Runs.{ascii-or-not, run-le, run-end}
@@ -105,7 +104,3 @@ module _ {s : List ℕ} {at : ℕ} (r : Checked s at) where
               ∙ ap (λ (m : ℕ). utf8 (drop m s)) sum)
               ∙ r .decides;
         }
-
--- past the run of ASCII at the front of all bytes
-pub past-front : (s : List ℕ) → Checked s (0 + asciiRun (part s 0 (length s)))
-past-front s = rw (take-length s) (past-run (checked s))

@@ -59,8 +59,8 @@ fn past_blocks(bytes: &[u8], start: usize) -> usize
     at
 }
 
-// Past the run of ASCII at the front of the `count` bytes from `start` on, one by one. Where the count is small for sure, the loop is unrolled.
-pub fn past_bytes(bytes: &[u8], start: usize, count: usize) -> usize
+// Past the run of ASCII at the front of the `count` bytes from `start` on, one by one. Where the count is named, the loop is unrolled.
+fn past_bytes(bytes: &[u8], start: usize, count: usize) -> usize
     requires { ⌜ start + count ≤ length (now bytes) ⌝ }
     ensures { λ r. ⌜ r ≡ start + asciiRun (part (now (bytes .entry)) start count) ⌝ }
 {
@@ -74,14 +74,18 @@ pub fn past_bytes(bytes: &[u8], start: usize, count: usize) -> usize
     start + count
 }
 
-// Where the run of ASCII ends that begins at `start`, with a byte that the caller has seen. Where eight bytes are not all ASCII, seven of them
-// tell where it ends. A rest of less than eight is tested together with bytes before it, which were passed already: one test for up to seven.
+// Where the run of ASCII ends that begins at `start`, with a byte that the caller has seen. One byte between other characters is common in text,
+// and is seen first. Where eight bytes are not all ASCII, seven of them tell where it ends. A rest of less than eight is tested together with
+// bytes before it, which were passed already: one test for up to seven.
 pub fn ascii_end(bytes: &[u8], start: usize) -> usize
     requires { ⌜ (start < length (now bytes)) × (getD (now bytes) start 0 < 0x80) ⌝ }
     ensures { λ r. ⌜ r ≡ start + asciiRun (drop start (now (bytes .entry))) ⌝ }
 {
     if bytes.len() - start < 8 {
         return past_bytes(bytes, start + 1, bytes.len() - start - 1);
+    }
+    if 0x80 <= bytes[start + 1] {
+        return start + 1;
     }
     let mut at = start;
     while 8 <= bytes.len() - at {

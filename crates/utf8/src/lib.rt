@@ -9,7 +9,6 @@ ghost use lib.ListN.{length, getD, drop};
 ghost use Rattle.slices.specs.Parts.{part};
 ghost use Rattle.utf8.specs.Utf8.{isContinuation, isScalar, sized, sequence, utf8};
 use ascii::ascii_end;
-use ascii::past_bytes;
 
 // 10xxxxxx.
 fn is_continuation(b: u8) -> bool
@@ -74,13 +73,17 @@ fn sequence_at(bytes: &[u8], at: usize) -> usize
 {
     let lead = bytes[at];
     let ones = u8::leading_zeros(!lead);
-    if ones == 2 {
+    // Tests of order, which the compiler makes of the lead byte itself: no count is left in the code.
+    if ones < 3 {
+        if ones < 2 {
+            return 0;
+        }
         return complete(bytes, at, 2, 0x80, lead & 0x1F);
     }
-    if ones == 3 {
+    if ones < 4 {
         return complete(bytes, at, 3, 0x800, lead & 0x0F);
     }
-    if ones == 4 {
+    if ones < 5 {
         return complete(bytes, at, 4, 0x10000, lead & 0x07);
     }
     0
@@ -91,10 +94,6 @@ pub fn is_utf8(bytes: &[u8]) -> bool
     ensures { λ r. ⌜ r ≡ utf8 (now (bytes .entry)) ⌝ }
 {
     let mut at = 0;
-    // Names and words are short: of less than eight bytes the front is passed over in a loop of its own, which is unrolled.
-    if bytes.len() < 8 {
-        at = past_bytes(bytes, 0, bytes.len());
-    }
     while at < bytes.len() {
         if bytes[at] < 0x80 {
             at = ascii_end(bytes, at);

@@ -79,7 +79,8 @@ pub const TEXTS: [(&str, &str); 4] = [
 ];
 
 /// Texts of up to 15 bytes that are not all ASCII.
-pub const SHORT_TEXTS: [&str; 5] = ["µm", "部品", "Größe", "für 5 €", "Düse 4 für"];
+pub const SHORT_TEXTS: [&str; 10] =
+    ["µ", "部", "🜁", "µm", "部品", "Größe", "12,50 €", "für 5 €", "部品番号", "Düse 4 für"];
 
 /// The longest message that is one String, of `text` repeated.
 pub fn one_string(text: &str) -> Vec<u8> {

@@ -5,7 +5,7 @@ use Prim.Native.Nat.{_-_, _≤_}
 use native.Mathlib.Omega.{arith}
 use borrow.Author.Needs.{needs}
 use lib.ListN.{length}
-use Rattle.utf8.proofs.Utf8.{Checked, Leads, checked, past-front, all-checked, at-fault, past-run, leads-past-run, past-sequence}
+use Rattle.utf8.proofs.Utf8.{Checked, Leads, checked, all-checked, at-fault, past-run, leads-past-run, past-sequence}
 use Rattle.utf8.proofs.is_utf8.Statement.{statement}
 use Rattle.utf8.proofs.is_utf8.Tie as tie
 
@@ -16,8 +16,8 @@ abbrev μ-loop : tie.MeasureT-loop
 μ-loop bytes at₀ at = length bytes - at
 
 -- past the ASCII bytes, if there are some, a sequence of several has to begin
-leads : (c : tie.Joined2 Inv-loop μ-loop)
-    → Leads (c .before .before .before .before .before .before .args .bytes .now) (c .if2 .at) × (c .before .before .before .loop .at ≤ c .if2 .at)
+leads : (c : tie.Joined1 Inv-loop μ-loop)
+    → Leads (c .before .before .before .before .before .args .bytes .now) (c .if1 .at) × (c .before .before .before .loop .at ≤ c .if1 .at)
 leads c =
     let l = c .before .before .before .loop in
     ⊎-elim
@@ -25,17 +25,15 @@ leads c =
     let e = way .3 ∙ way .1 .ensures in
     (rw e (leads-past-run (l .inv) (omega (arith, way .1 .ensures, way .2 .left))), omega (arith, e)))
     (λ way. (rw (way .1) (record { before = l .inv; inside = omega arith; high = way .0 .left }), omega (arith, way .1)))
-    (c .if2 .came)
+    (c .if1 .came)
 
 loop-holds : tie.Need-loop-holds Inv-loop μ-loop
-loop-holds c =
-    let s = c .before .before .args .bytes .now in
-    ⊎-elim (λ way. rw (way .2 ∙ way .1 .ensures) (past-front s)) (λ way. rw (way .1) (checked s)) (c .if1 .came)
+loop-holds c = checked (c .before .args .bytes .now)
 
 returns : tie.Need-returns Inv-loop μ-loop
 returns c =
     let l = c .before .before .before .before .before .loop in
-    all-checked (past-run (l .inv)) (omega (arith, c .before .ascii-end .ensures, c .if3 .taken))
+    all-checked (past-run (l .inv)) (omega (arith, c .before .ascii-end .ensures, c .if2 .taken))
 
 sequence-at-requires : tie.Need-sequence-at-requires Inv-loop μ-loop
 sequence-at-requires c κs = (leads c .0 .inside, leads c .0 .high)
@@ -44,13 +42,13 @@ returns-2 : tie.Need-returns-2 Inv-loop μ-loop
 returns-2 c =
     let n = c .before .sequence-at in
     let l = leads (c .before .before) .0 in
-    at-fault (l .before) (l .inside) (n .result) (n .ensures) (c .if4 .taken)
+    at-fault (l .before) (l .inside) (n .result) (n .ensures) (c .if3 .taken)
 
 loop-again : tie.Need-loop-again Inv-loop μ-loop
 loop-again c =
     let n = c .before .before .sequence-at in
     let l = leads (c .before .before .before) .0 in
-    past-sequence (l .before) (l .inside) (n .result) (n .ensures) (c .before .if4 .left)
+    past-sequence (l .before) (l .inside) (n .result) (n .ensures) (c .before .if3 .left)
 
 add-at : tie.Need-add-at Inv-loop μ-loop
 add-at c = omega (arith, loop-again c .within)
@@ -67,7 +65,6 @@ is-utf8-spec =
     (tie.spec
     Inv-loop
     μ-loop
-    (λ c κs. search needs)
     loop-holds
     (λ c. search needs)
     (λ c κs. search needs)
