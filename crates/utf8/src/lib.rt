@@ -73,7 +73,7 @@ fn sequence_at(bytes: &[u8], at: usize) -> usize
 {
     let lead = bytes[at];
     let ones = u8::leading_zeros(!lead);
-    // Tests of order, which the compiler makes of the lead byte itself: no count is left in the code.
+    // Compared by order and not for equality: the compiler then compares the lead byte itself, and counts nothing.
     if ones < 3 {
         if ones < 2 {
             return 0;
