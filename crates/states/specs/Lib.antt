@@ -1,0 +1,10 @@
+pub mod Requests
+pub mod Appendix
+pub mod Table
+pub mod Rules
+pub mod Answers
+pub mod Private
+pub mod Events
+pub mod TableClaim
+pub mod Stopped
+pub mod Cases

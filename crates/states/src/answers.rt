@@ -1,0 +1,55 @@
+// What the calls answer: for each call an enum with just the cases that it can give.
+// Document 01, "Connection record" and "Summaries".
+use super::request::Request;
+use refusal::Refusal;
+
+// How the engine ended a request: with success, with success and more to fetch (PULL and DISCARD only), or not at all.
+pub enum Outcome {
+    Success,
+    More,
+    Failure,
+}
+
+// The texts of a FAILURE: "Parts.Stream.Full", "Parts.Stream.Unknown" and "Parts.Engine.Failed".
+pub enum Failure {
+    StreamsFull,
+    StreamUnknown,
+    EngineFailed,
+}
+
+// A summary: IGNORED, SUCCESS with nothing, with has_more or with the qid of the stream it opened, or FAILURE.
+pub enum Summary {
+    Ignored,
+    Success,
+    HasMore(bool),
+    Stream(u32),
+    Failure(Failure),
+}
+
+pub enum Arrival {
+    Queued,
+    // A RESET that came before HELLO: it was accepted, and it closed the connection.
+    Closed,
+    Refused(Refusal),
+}
+
+pub enum Taken {
+    // None waits, or one is in flight.
+    Idle,
+    Closed,
+    // For the engine, which is to report on it.
+    Handed { request: Request, number: u64 },
+    // For the client: the summary of the request with this number.
+    Answered { summary: Summary, number: u64 },
+    Refused(Refusal),
+}
+
+pub enum Reported {
+    Answered { summary: Summary, number: u64 },
+    Refused(Refusal),
+}
+
+pub enum Closing {
+    Closed,
+    Refused(Refusal),
+}
