@@ -29,7 +29,7 @@ use denote.Enum.Declared.{Declared, variants, shape, row as rowOf}
 use denote.Enum.Laws as EL
 use denote.Triple.Call.{calls-from}
 use Rattle.refusal.specs.Answer.{Answer}
-use Rattle.connection.specs.Table.{Said}
+use Rattle.states.specs.Table.{Said}
 use Rattle.connection.specs.Record.{After}
 use Rattle.connection.specs.declared.record.Connection.{Connection}
 use Rattle.connection.proofs.record.Connection as T

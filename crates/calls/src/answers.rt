@@ -1,16 +1,16 @@
 // What the calls answer, written as bytes.
 use crate::conversation::Heard;
 use crate::requests;
-use connection::answers::Arrival;
-use connection::answers::Closing;
-use connection::answers::Reported;
-use connection::answers::Summary;
-use connection::answers::Taken;
 use connection::record::Connection;
-use connection::record::Request;
 use console::output;
 use packing::Packed;
 use refusal::Refusal;
+use states::answers::Arrival;
+use states::answers::Closing;
+use states::answers::Reported;
+use states::answers::Summary;
+use states::answers::Taken;
+use states::request::Request;
 
 // The longest summary has 60 bytes.
 const ROOM: usize = 64;

@@ -1,11 +1,11 @@
 // A conversation on one record, which lies in one place from the first call to the last.
-use connection::answers::Arrival;
-use connection::answers::Closing;
-use connection::answers::Outcome;
-use connection::answers::Reported;
-use connection::answers::Taken;
 use connection::record::Connection;
-use connection::record::Request;
+use states::answers::Arrival;
+use states::answers::Closing;
+use states::answers::Outcome;
+use states::answers::Reported;
+use states::answers::Taken;
+use states::request::Request;
 ghost use mathlib.Core.Path.{_≡_};
 ghost use Rattle.calls.specs.Private.Conversation.{conversation, told};
 

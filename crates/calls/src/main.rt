@@ -20,7 +20,7 @@ mod operations;
 mod requests;
 mod set;
 mod show;
-mod states;
+mod state_bytes;
 
 use connection::record::Connection;
 use console::input;

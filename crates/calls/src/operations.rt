@@ -5,8 +5,8 @@ use crate::operands;
 use crate::requests;
 use crate::set;
 use crate::show;
-use connection::answers::Outcome;
 use connection::record::Connection;
+use states::answers::Outcome;
 
 // The last outcome; greater bytes name none.
 const LAST_OUTCOME: u8 = 0x02;

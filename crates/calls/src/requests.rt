@@ -1,8 +1,8 @@
 // Requests as bytes: the tag and, for DISCARD and PULL, n and qid.
 ghost use Prim.Native.Nat.{_≤_};
 use crate::operands;
-use connection::record::Request;
 use console::output;
+use states::request::Request;
 
 // More than a line has bytes: no line is long enough for a request whose tag names none.
 const NO_REQUEST: usize = 40001;

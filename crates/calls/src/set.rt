@@ -6,14 +6,14 @@ use crate::answers;
 use crate::operands;
 use crate::requests;
 use crate::show;
-use crate::states;
+use crate::state_bytes;
 use connection::record::Connection;
 use connection::record::Control;
 use connection::record::Queue;
-use connection::record::Request;
 use connection::record::Slot;
 use connection::record::Streams;
 use console::output;
+use states::request::Request;
 
 pub fn fresh() -> Connection {
     output::byte(0x00);
@@ -86,7 +86,7 @@ fn control_of(operands: &[u8], open_at: usize, shown: usize) -> Control
     let counts_at = open_at + 9 + 8 * shown;
     let streams = streams_of(operands, open_at, shown);
     Control {
-        state: states::state_of(operands::byte_at(operands, 0)),
+        state: state_bytes::state_of(operands::byte_at(operands, 0)),
         in_flight: operands::byte_at(operands, 1) == 1,
         waiting: count_at(operands, 2),
         streams: streams,
@@ -99,7 +99,7 @@ pub fn set(operands: &[u8], connection: Connection) -> Connection {
     let waiting = waiting_of(operands, show::shown(count_at(operands, 2), 32));
     let open_at = waiting.end;
     let open = show::shown(count_at(operands, open_at), 8);
-    let is_state = operands::byte_at(operands, 0) <= states::LAST;
+    let is_state = operands::byte_at(operands, 0) <= state_bytes::LAST;
     let is_boolean = operands::byte_at(operands, 1) <= 1;
     let is_whole = operands.len() == open_at + 25 + 8 * open;
     if !(is_state && is_boolean && is_whole) {

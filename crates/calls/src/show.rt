@@ -11,7 +11,7 @@
 // A count may be over 32 or 8, where operation 16 has set it so; the record has no more than 32 requests and 8 numbers to show then.
 ghost use Prim.Native.Nat.{_≤_};
 use crate::requests;
-use crate::states;
+use crate::state_bytes;
 use connection::record::Connection;
 use connection::record::Queue;
 use connection::record::Streams;
@@ -57,7 +57,7 @@ pub fn show(connection: Connection) -> Connection {
     let state = control.state;
     let streams = control.streams;
     output::byte(0x00);
-    output::byte(states::byte_of(state));
+    output::byte(state_bytes::byte_of(state));
     output::byte(control.in_flight as u8);
     output::size(control.waiting, 1);
     show_requests(queue, shown(control.waiting, 32));

@@ -7,19 +7,19 @@ use lib.Dec.{eqb, leb}
 use lib.ListN.{length}
 use borrow.Author.Tests.{leb-true, eqb-true}
 use Rattle.refusal.specs.Answer.{Answer, result, refused}
-use Rattle.connection.specs.declared.record.State.the-variants.{Defunct}
+use Rattle.states.specs.declared.state.State.the-variants.{Defunct}
 use Rattle.connection.specs.declared.record.Queue.{Queue}
 use Rattle.connection.specs.declared.record.Control.{Control}
 use Rattle.connection.specs.declared.record.Connection.{Connection}
-use Rattle.connection.specs.declared.record.Request.{Request}
-use Rattle.connection.specs.Requests.{inState, inRange}
-use Rattle.connection.specs.Table.{Table, Done, idle, unlessDefunct, accept, takeFirst}
-use Rattle.connection.specs.Rules.{distinctBelow, countsRule, stateRules, rules, openRule, resetRule, mayBeInFlight, firstInFlight, flightRule, waitingRule, numbersRule}
+use Rattle.states.specs.declared.request.Request.{Request}
+use Rattle.states.specs.Requests.{inState, inRange}
+use Rattle.states.specs.Table.{Table, Done, idle, unlessDefunct, accept, takeFirst}
+use Rattle.states.specs.Rules.{distinctBelow, countsRule, stateRules, rules, openRule, resetRule, mayBeInFlight, firstInFlight, flightRule, waitingRule, numbersRule}
 use Rattle.connection.specs.Record.{joined, front, openOf, kept, keepsRules, carried, called}
 use Rattle.connection.specs.Private.Queue.{firstIn}
-use Rattle.connection.proofs.Bools.{and-left, and-right}
+use Rattle.states.proofs.Bools.{and-left, and-right}
 use Rattle.connection.proofs.Keeping.{Fits}
-use Rattle.connection.proofs.Standing.{counts-by, one-in-flight}
+use Rattle.states.proofs.Standing.{counts-by, one-in-flight}
 use Rattle.connection.proofs.Waiting.{front-length, front-first}
 
 -- ---- 24, then 18

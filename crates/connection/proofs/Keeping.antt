@@ -6,18 +6,18 @@ use Prim.Native.Nat.{ℕ, _+_, _-_, _<_, _≤_}
 use native.Mathlib.Omega.{arith}
 use lib.ListN.{length, length-append}
 use Rattle.refusal.specs.Answer.{result}
-use Rattle.connection.specs.declared.record.State.{State}
-use Rattle.connection.specs.declared.record.State.the-variants.{Connected, Interrupted}
-use Rattle.connection.specs.declared.record.Request.{Request}
+use Rattle.states.specs.declared.state.State.{State}
+use Rattle.states.specs.declared.state.State.the-variants.{Connected, Interrupted}
+use Rattle.states.specs.declared.request.Request.{Request}
 use Rattle.connection.specs.declared.record.Queue.{Queue}
 use Rattle.connection.specs.declared.record.Streams.{Streams}
 use Rattle.connection.specs.declared.record.Control.{Control}
 use Rattle.connection.specs.declared.record.Connection.{Connection}
-use Rattle.connection.specs.declared.answers.Summary.{Summary}
-use Rattle.connection.specs.declared.turn.Turn.{Turn}
-use Rattle.connection.specs.Requests.{is, inState}
+use Rattle.states.specs.declared.answers.Summary.{Summary}
+use Rattle.states.specs.declared.turn.Turn.{Turn}
+use Rattle.states.specs.Requests.{is, inState}
 use Rattle.bolt.specs.Requests.{RESET}
-use Rattle.connection.specs.Table.{Open, Table, Done, queued, closed, idle, answered, noneOpen, defunct, enqueued, accept, numberAfter, answer, taken, takeFirst, turnOf}
+use Rattle.states.specs.Table.{Open, Table, Done, queued, closed, idle, answered, noneOpen, defunct, enqueued, accept, numberAfter, answer, taken, takeFirst, turnOf}
 use Rattle.connection.specs.Record.{After, joined, front, linedUp, openOf, laid, kept, put, carried}
 use Rattle.connection.specs.Private.Queue.{behind, firstIn}
 use Rattle.connection.specs.Private.Parts.{defunctIn, countedIn, enqueuedIn, answeredIn, handedIn}

@@ -1,15 +1,8 @@
-pub mod Bools
 pub mod Calls
 pub mod Demand3
-pub mod Invariant
 pub mod Keeping
 pub mod Lengths
-pub mod Lists
-pub mod Signed
 pub mod Numbers
 pub mod Outcomes
-pub mod Rows
 pub mod Standing
-pub mod Stopped
-pub mod Turns
 pub mod Waiting

@@ -2,7 +2,7 @@
 use mathlib.Core.Path.{_≡_, refl, sym, ap, _∙_, subst}
 use mathlib.Core.Bool.{Bool, true, false, cond, not, _&&_, and-false}
 use mathlib.Core.List.{List, [], _∷_, _++_}
-use Prim.Native.Nat.{ℕ, suc, _+_, _-_, _<_, _≤_}
+use Prim.Native.Nat.{ℕ, _+_, _-_, _<_, _≤_}
 use native.Mathlib.Numerals.{add-one}
 use native.Mathlib.Omega.{arith}
 use lib.Dec.{eqb, ltb, leb}
@@ -10,12 +10,11 @@ use lib.ListN.{length, take, drop, getD, set, length-append, drop-of-length-le}
 use lib.Seq.{sets, length-take-le, getD-take, drop-cons}
 use borrow.Author.Tests.{le-leb, lt-leb, lt-ltb, le-ltb}
 use Rattle.connection.specs.declared.record.Streams.{Streams}
-use Rattle.connection.specs.Requests.{any}
-use Rattle.connection.specs.Table.{Open, has, without, oneMore, oneLess}
-use Rattle.connection.specs.Rules.{distinctBelow, numbersRule}
+use Rattle.states.specs.Requests.{any}
+use Rattle.states.specs.Table.{Open, has, without, oneMore, oneLess}
+use Rattle.states.specs.Rules.{distinctBelow, numbersRule}
 use Rattle.connection.specs.Record.{openOf, laid}
-use Rattle.connection.proofs.Bools.{by-test}
-use Rattle.connection.proofs.Lists.{sets-snoc, sets-own, take-sets, take-more, scan-found, scan-passed, scan-ended}
+use Rattle.states.proofs.Lists.{sets-snoc, sets-own, take-sets, take-more, scan-found, scan-passed, scan-ended}
 
 -- ---- the first n of 8 numbers
 module _ (l : List ℕ) (n : ℕ) (long : length l ≡ 8) (few : n ≤ 8) where
@@ -99,12 +98,6 @@ without-snoc q (y ∷ ys) x b e = by-head (eqb y q) b (without-snoc q ys x b e)
     by-head true b h = h
     by-head false true h = ap (λ (l : List ℕ). y ∷ l) h
     by-head false false h = ap (λ (l : List ℕ). y ∷ l) h
-
-pub without-length : (q : ℕ) (l : List ℕ) → length (without q l) ≤ length l
-without-length q [] = omega arith
-without-length q (x ∷ xs) =
-    let less = without-length q xs in
-    by-test (λ (r : List ℕ). length r ≤ suc (length xs)) (eqb x q) (λ _. omega arith) (λ _. omega arith)
 
 -- the first i of the old numbers have been looked at
 pub record Kept (q : ℕ) (old numbers : List ℕ) (left i : ℕ) : Type 0 where

@@ -6,25 +6,26 @@ use Prim.Native.Nat.{ℕ, _-_, _<_}
 use lib.Dec.{eqb}
 use lib.ListN.{length}
 use Rattle.refusal.specs.Answer.{Answer, result, refused}
-use Rattle.connection.specs.declared.record.State.{State}
-use Rattle.connection.specs.declared.record.State.the-variants.{Ready, Streaming, TxReady, Failed, Interrupted, Defunct}
-use Rattle.connection.specs.declared.record.Request.{Request}
+use Rattle.states.specs.declared.state.State.{State}
+use Rattle.states.specs.declared.state.State.the-variants.{Ready, Streaming, TxReady, Failed, Interrupted, Defunct}
+use Rattle.states.specs.declared.request.Request.{Request}
 use Rattle.connection.specs.declared.record.Streams.{Streams}
 use Rattle.connection.specs.declared.record.Queue.{Queue}
 use Rattle.connection.specs.declared.record.Control.{Control}
-use Rattle.connection.specs.declared.answers.Outcome.{Outcome}
-use Rattle.connection.specs.declared.answers.Outcome.the-variants.{Success}
-use Rattle.connection.specs.declared.answers.Reported.the-variants.{Answered}
-use Rattle.connection.specs.declared.answers.Summary.{Summary}
+use Rattle.states.specs.declared.answers.Outcome.{Outcome}
+use Rattle.states.specs.declared.answers.Outcome.the-variants.{Success}
+use Rattle.states.specs.declared.answers.Reported.the-variants.{Answered}
+use Rattle.states.specs.declared.answers.Summary.{Summary}
 use Rattle.connection.specs.declared.answers.AfterReport.{AfterReport}
-use Rattle.connection.specs.declared.answers.Summary.the-variants as S
-use Rattle.connection.specs.Requests.{isKind, kindOf, inState, inTransaction, is, fetches, asked, named}
+use Rattle.states.specs.declared.answers.Summary.the-variants as S
+use Rattle.states.specs.Requests.{isKind, kindOf, inState, inTransaction, is, fetches, asked, named}
 use Rattle.bolt.specs.Requests.{Kind, HELLO, RUN, BEGIN}
-use Rattle.connection.specs.Appendix.{newState, handsOver}
-use Rattle.connection.specs.Table.{Open, Table, Done, oneMore, oneLess, numberAfter, answer, answered, response, successStreams, streamsAfter, successSummary, summaryOf, waitingIn, settled, reported, fitting, reportFirst}
+use Rattle.states.specs.Appendix.{newState, handsOver}
+use Rattle.states.specs.Table.{Open, Table, Done, oneMore, oneLess, numberAfter, answer, answered, response, successStreams, streamsAfter, successSummary, summaryOf, waitingIn, settled, reported, fitting, reportFirst}
 use Rattle.connection.specs.Record.{joined, front, openOf, laid, kept, carried, toldReport}
 use Rattle.connection.specs.Private.Queue.{behind, firstIn}
-use Rattle.connection.specs.Private.Parts.{answeredIn, lastState, failureState, settledIn}
+use Rattle.states.specs.Private.Outcomes.{lastState, failureState}
+use Rattle.connection.specs.Private.Parts.{answeredIn, settledIn}
 use Rattle.connection.proofs.Keeping.{Fits, put-answered, answers}
 use Rattle.connection.proofs.Waiting.{front-first}
 

@@ -6,14 +6,14 @@ use Prim.Native.Nat.{ℕ, suc, _+_, _-_, _<_, _≤_}
 use native.Mathlib.Omega.{arith}
 use lib.ListN.{length, take, drop, getD, set, length-map, length-drop, List·getD-map}
 use lib.Seq.{sets, length-take-le, getD-take, getD-drop, drop-cons, take-nil}
-use Rattle.connection.specs.declared.record.Request.{Request}
-use Rattle.connection.specs.declared.record.Request.the-variants.{Hello}
+use Rattle.states.specs.declared.request.Request.{Request}
+use Rattle.states.specs.declared.request.Request.the-variants.{Hello}
 use Rattle.connection.specs.declared.record.Slot.{Slot}
 use Rattle.connection.specs.declared.record.Queue.{Queue}
-use Rattle.connection.specs.Requests.{any}
+use Rattle.states.specs.Requests.{any}
 use Rattle.connection.specs.Record.{slot, requestIn, front, linedUp}
 use Rattle.connection.specs.Private.Queue.{behind, firstIn}
-use Rattle.connection.proofs.Lists.{sets-snoc, sets-own, take-sets, take-more, scan-found, scan-passed, scan-ended}
+use Rattle.states.proofs.Lists.{sets-snoc, sets-own, take-sets, take-more, scan-found, scan-passed, scan-ended}
 
 -- ---- requests in places
 -- a place holds its request and nothing else

@@ -1,10 +1,3 @@
-pub mod Requests
-pub mod Appendix
-pub mod Table
-pub mod Rules
-pub mod Answers
 pub mod Record
 pub mod Private
 pub mod Claim
-pub mod Stopped
-pub mod Cases

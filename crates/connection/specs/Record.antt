@@ -6,23 +6,23 @@ use lib.Dec.{leb}
 use lib.ListN.{length, take, replicate}
 use lib.Seq.{sets}
 use Rattle.refusal.specs.Answer.{Answer, result, refused}
-use Rattle.connection.specs.declared.record.State.the-variants.{Connected}
-use Rattle.connection.specs.declared.record.Request.{Request}
-use Rattle.connection.specs.declared.record.Request.the-variants.{Hello}
+use Rattle.states.specs.declared.state.State.the-variants.{Connected}
+use Rattle.states.specs.declared.request.Request.{Request}
+use Rattle.states.specs.declared.request.Request.the-variants.{Hello}
 use Rattle.connection.specs.declared.record.Slot.{Slot}
 use Rattle.connection.specs.declared.record.Queue.{Queue}
 use Rattle.connection.specs.declared.record.Streams.{Streams}
 use Rattle.connection.specs.declared.record.Control.{Control}
 use Rattle.connection.specs.declared.record.Connection.{Connection}
-use Rattle.connection.specs.declared.answers.Outcome.{Outcome}
+use Rattle.states.specs.declared.answers.Outcome.{Outcome}
 use Rattle.connection.specs.declared.answers.AfterArrive.{AfterArrive}
 use Rattle.connection.specs.declared.answers.AfterTake.{AfterTake}
 use Rattle.connection.specs.declared.answers.AfterReport.{AfterReport}
 use Rattle.connection.specs.declared.answers.AfterClose.{AfterClose}
-use Rattle.connection.specs.Table as T
-use Rattle.connection.specs.Table.{Open, Table, Said, Done}
-use Rattle.connection.specs.Rules.{rules}
-use Rattle.connection.specs.Answers.{toldArrival, toldTaken, toldReported, toldClosing}
+use Rattle.states.specs.Table as T
+use Rattle.states.specs.Table.{Open, Table, Said, Done}
+use Rattle.states.specs.Rules.{rules}
+use Rattle.states.specs.Answers.{toldArrival, toldTaken, toldReported, toldClosing}
 
 -- ---- what the table keeps of a record
 abbrev pub slot : Request → Slot

@@ -1,59 +1,9 @@
-// What the calls answer: for each call an enum with just the cases that it can give, and the record after the call beside it.
-// Document 01, "Connection record" and "Summaries".
+// What the calls by value give back: the record after the call, and what it answers. Document 01, "Connection record".
 use super::record::Connection;
-use super::record::Request;
-use refusal::Refusal;
-
-// How the engine ended a request: with success, with success and more to fetch (PULL and DISCARD only), or not at all.
-pub enum Outcome {
-    Success,
-    More,
-    Failure,
-}
-
-// The texts of a FAILURE: "Parts.Stream.Full", "Parts.Stream.Unknown" and "Parts.Engine.Failed".
-pub enum Failure {
-    StreamsFull,
-    StreamUnknown,
-    EngineFailed,
-}
-
-// A summary: IGNORED, SUCCESS with nothing, with has_more or with the qid of the stream it opened, or FAILURE.
-pub enum Summary {
-    Ignored,
-    Success,
-    HasMore(bool),
-    Stream(u32),
-    Failure(Failure),
-}
-
-pub enum Arrival {
-    Queued,
-    // A RESET that came before HELLO: it was accepted, and it closed the connection.
-    Closed,
-    Refused(Refusal),
-}
-
-pub enum Taken {
-    // None waits, or one is in flight.
-    Idle,
-    Closed,
-    // For the engine, which is to report on it.
-    Handed { request: Request, number: u64 },
-    // For the client: the summary of the request with this number.
-    Answered { summary: Summary, number: u64 },
-    Refused(Refusal),
-}
-
-pub enum Reported {
-    Answered { summary: Summary, number: u64 },
-    Refused(Refusal),
-}
-
-pub enum Closing {
-    Closed,
-    Refused(Refusal),
-}
+use states::answers::Arrival;
+use states::answers::Closing;
+use states::answers::Reported;
+use states::answers::Taken;
 
 pub struct AfterArrive {
     pub connection: Connection,

@@ -1,25 +1,25 @@
 // Arrive: a request has come, and goes to the end of the queue. Document 01, "Connection record".
 // The refusals come in this order: 24, 18, 27, 20, 17.
 use super::answers::AfterArrive;
-use super::answers::Arrival;
 use super::changes;
 use super::queue;
 use super::record::Connection;
 use super::record::Control;
 use super::record::Queue;
-use super::record::Request;
-use super::record::State;
 use super::record::Streams;
-use super::requests;
 use super::rules;
-use super::states;
 use super::streams;
 use refusal::Refusal;
+use states::answers::Arrival;
+use states::request;
+use states::request::Request;
+use states::state;
+use states::state::State;
 ghost use mathlib.Core.Path.{_≡_};
 ghost use Prim.Native.Nat.{_<_};
 ghost use Rattle.refusal.specs.Answer.{result};
-ghost use Rattle.connection.specs.declared.answers.Arrival.the-variants.{Queued};
-ghost use Rattle.connection.specs.Table.{accept as acceptT};
+ghost use Rattle.states.specs.declared.answers.Arrival.the-variants.{Queued};
+ghost use Rattle.states.specs.Table.{accept as acceptT};
 ghost use Rattle.connection.specs.Record.{joined, kept, carried, toldArrive, arriveOf};
 ghost use Rattle.connection.specs.Private.Parts.{Accepting, enqueuedIn};
 
@@ -40,10 +40,10 @@ pub fn step(control: Control, queue: Queue, request: Request) -> AfterArrive
         return answer(control, queue, Arrival::Refused(Refusal::InvalidRecord));
     }
     let state = control.state;
-    if states::is_in(state, State::Defunct) {
+    if state::is_in(state, State::Defunct) {
         return answer(control, queue, Arrival::Refused(Refusal::ConnectionDefunct));
     }
-    if !requests::is_in_range(request) {
+    if !request::is_in_range(request) {
         return answer(control, queue, Arrival::Refused(Refusal::OutOfRange));
     }
     if 4294967295 <= control.accepted {
@@ -66,8 +66,8 @@ fn accept(control: Control, queue: Queue, request: Request) -> AfterArrive
 {
     let state = control.state;
     let streams = control.streams;
-    if requests::tag(request) == requests::RESET {
-        if states::is_in(state, State::Connected) {
+    if request::tag(request) == request::RESET {
+        if state::is_in(state, State::Connected) {
             let counted = changes::counted(control, state, streams);
             return answer(changes::defunct(counted), queue, Arrival::Closed);
         }

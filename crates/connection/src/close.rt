@@ -1,15 +1,15 @@
 // Close: the connection ends. Document 01, "Connection record".
 // The refusals come in this order: 24, 18.
 use super::answers::AfterClose;
-use super::answers::Closing;
 use super::changes;
 use super::record::Connection;
 use super::record::Control;
 use super::record::Queue;
-use super::record::State;
 use super::rules;
-use super::states;
 use refusal::Refusal;
+use states::answers::Closing;
+use states::state;
+use states::state::State;
 ghost use mathlib.Core.Path.{_≡_};
 ghost use Rattle.connection.specs.Record.{joined, toldClose, closeOf};
 
@@ -30,7 +30,7 @@ pub fn step(control: Control, queue: Queue) -> AfterClose
         return answer(control, queue, Closing::Refused(Refusal::InvalidRecord));
     }
     let state = control.state;
-    if states::is_in(state, State::Defunct) {
+    if state::is_in(state, State::Defunct) {
         return answer(control, queue, Closing::Refused(Refusal::ConnectionDefunct));
     }
     answer(changes::defunct(control), queue, Closing::Closed)

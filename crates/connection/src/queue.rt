@@ -1,14 +1,14 @@
 // The requests that wait, in order, at the front of the array; how many they are is the caller's to know. What the other places hold stays
 // as it is and never matters.
 use super::record::Queue;
-use super::record::Request;
 use super::record::Slot;
-use super::requests;
+use states::request;
+use states::request::Request;
 ghost use mathlib.Core.Path.{_≡_};
 ghost use mathlib.Core.List.{_∷_, _++_, []};
 ghost use Prim.Native.Nat.{_≤_, _<_};
 ghost use lib.ListN.{drop};
-ghost use Rattle.connection.specs.Requests.{is, any, outOfRange};
+ghost use Rattle.states.specs.Requests.{is, any, outOfRange};
 ghost use Rattle.bolt.specs.Requests.{RESET};
 ghost use Rattle.connection.specs.Record.{front, linedUp};
 ghost use Rattle.connection.specs.Private.Queue.{behind, firstIn};
@@ -33,7 +33,7 @@ pub fn has_reset(queue: Queue, from: usize, count: usize) -> bool
     while i < count {
         let slot = slots[i];
         let request = slot.request;
-        if requests::tag(request) == requests::RESET {
+        if request::tag(request) == request::RESET {
             return true;
         }
         i += 1;
@@ -51,7 +51,7 @@ pub fn has_wrong(queue: Queue, count: usize) -> bool
     while i < count {
         let slot = slots[i];
         let request = slot.request;
-        if !requests::is_in_range(request) {
+        if !request::is_in_range(request) {
             return true;
         }
         i += 1;

@@ -1,49 +1,9 @@
 // The record of one connection, in two parts: a small control part, which every call looks at, and the queue of the requests that wait.
 // Document 01, "Connection record".
+use states::request::Request;
+use states::state::State;
 ghost use mathlib.Core.Path.{_≡_};
-ghost use Rattle.connection.specs.Requests.{rank as rankOf};
 ghost use Rattle.connection.specs.Record.{fresh as freshRecord};
-
-// Where a connection stands: 003, "Server States".
-pub enum State {
-    Connected,
-    Ready,
-    Streaming,
-    TxReady,
-    TxStreaming,
-    Failed,
-    Interrupted,
-    Defunct,
-}
-
-// A state's place in 003's list.
-pub fn rank(state: State) -> u8
-    ensures { λ r. ⌜ r ≡ rankOf state ⌝ }
-{
-    match state {
-        State::Connected => 0,
-        State::Ready => 1,
-        State::Streaming => 2,
-        State::TxReady => 3,
-        State::TxStreaming => 4,
-        State::Failed => 5,
-        State::Interrupted => 6,
-        State::Defunct => 7,
-    }
-}
-
-// A request as it arrives. Only DISCARD and PULL carry numbers: how many records, and of which stream, where -1 is the latest.
-pub enum Request {
-    Hello,
-    Goodbye,
-    Reset,
-    Run,
-    Begin,
-    Commit,
-    Rollback,
-    Discard { n: i64, qid: i64 },
-    Pull { n: i64, qid: i64 },
-}
 
 // One place of the queue.
 pub struct Slot {

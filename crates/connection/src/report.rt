@@ -1,34 +1,35 @@
 // Report: the engine's outcome for the request in flight. Document 01, "Connection record", and the next states of 003's appendix.
 // The refusals come in this order: 24, 18, 19.
 use super::answers::AfterReport;
-use super::answers::Failure;
-use super::answers::Outcome;
-use super::answers::Reported;
-use super::answers::Summary;
 use super::changes;
 use super::queue;
 use super::record::Connection;
 use super::record::Control;
 use super::record::Queue;
-use super::record::Request;
-use super::record::State;
 use super::record::Streams;
-use super::requests;
 use super::rules;
-use super::states;
 use super::streams;
 use refusal::Refusal;
+use states::answers::Failure;
+use states::answers::Outcome;
+use states::answers::Reported;
+use states::answers::Summary;
+use states::request;
+use states::request::Request;
+use states::state;
+use states::state::State;
 ghost use mathlib.Core.Path.{_≡_};
 ghost use mathlib.Core.Bool.{true, false, _&&_};
 ghost use Prim.Native.Nat.{_+_, _<_, _≤_};
-ghost use Rattle.connection.specs.declared.answers.Outcome.the-variants.{Success};
-ghost use Rattle.connection.specs.declared.answers.Reported.the-variants.{Answered};
-ghost use Rattle.connection.specs.Requests.{is, kindOf};
+ghost use Rattle.states.specs.declared.answers.Outcome.the-variants.{Success};
+ghost use Rattle.states.specs.declared.answers.Reported.the-variants.{Answered};
+ghost use Rattle.states.specs.Requests.{is, kindOf};
 ghost use Rattle.bolt.specs.Requests.{RUN};
-ghost use Rattle.connection.specs.Appendix.{newState, handsOver};
-ghost use Rattle.connection.specs.Table.{isFull, numberAfter, fitting, response, successStreams, streamsAfter, successSummary, summaryOf, reportFirst};
+ghost use Rattle.states.specs.Appendix.{newState, handsOver};
+ghost use Rattle.states.specs.Table.{isFull, numberAfter, fitting, response, successStreams, streamsAfter, successSummary, summaryOf, reportFirst};
 ghost use Rattle.connection.specs.Record.{joined, front, openOf, laid, kept, carried, toldReport, reportOf};
-ghost use Rattle.connection.specs.Private.Parts.{Reporting, Settling, answeredIn, lastState, failureState, settledIn};
+ghost use Rattle.states.specs.Private.Outcomes.{lastState, failureState};
+ghost use Rattle.connection.specs.Private.Parts.{Reporting, Settling, answeredIn, settledIn};
 
 // Brings the engine's outcome for the request in flight, and answers with its summary. Where a RESET came in between, the summary still goes
 // out, and nothing else follows from the outcome.
@@ -48,7 +49,7 @@ pub fn step(control: Control, queue: Queue, outcome: Outcome) -> AfterReport
         return answer(control, queue, Reported::Refused(Refusal::InvalidRecord));
     }
     let state = control.state;
-    if states::is_in(state, State::Defunct) {
+    if state::is_in(state, State::Defunct) {
         return answer(
             control,
             queue,
@@ -76,7 +77,7 @@ fn report_first(control: Control, queue: Queue, outcome: Outcome) -> AfterReport
     let state = control.state;
     let streams = control.streams;
     let summary = summary_of(outcome, state, streams.next, first);
-    if states::is_in(state, State::Interrupted) {
+    if state::is_in(state, State::Interrupted) {
         return sum_up(control, queue, state, streams, control.waiting - 1, summary);
     }
     settle(control, queue, first, outcome, summary)
@@ -97,7 +98,7 @@ fn settle(
     let streams = control.streams;
     let after = streams_after(outcome, state, streams, first);
     let new = new_state(outcome, state, first, after.count);
-    if states::is_in(new, State::Defunct) {
+    if state::is_in(new, State::Defunct) {
         return sum_up(control, queue, new, after, 0, summary);
     }
     sum_up(control, queue, new, after, control.waiting - 1, summary)
@@ -119,7 +120,7 @@ fn new_state(outcome: Outcome, state: State, request: Request, left: usize) -> S
 fn after_failure(request: Request) -> State
     ensures { λ r. ⌜ r ≡ failureState (kindOf request) ⌝ }
 {
-    if requests::tag(request) == requests::HELLO {
+    if request::tag(request) == request::HELLO {
         return State::Defunct;
     }
     State::Failed
@@ -135,7 +136,7 @@ fn after_success(state: State, request: Request, left: usize) -> State
         Request::Goodbye => state,
         Request::Reset => state,
         Request::Run => {
-            if states::is_in(state, State::Ready) {
+            if state::is_in(state, State::Ready) {
                 return State::Streaming;
             }
             State::TxStreaming
@@ -153,7 +154,7 @@ fn after_last(state: State, left: usize) -> State
     ensures { λ r. ⌜ r ≡ lastState state left ⌝ }
 {
     if left == 0 {
-        if states::is_in(state, State::Streaming) {
+        if state::is_in(state, State::Streaming) {
             return State::Ready;
         }
         return State::TxReady;
@@ -177,19 +178,19 @@ fn success_streams(state: State, streams: Streams, request: Request) -> Streams
     requires { ⌜ (streams .count ≤ 8) × ((is RUN request && isFull state (openOf streams)) ≡ false) ⌝ }
     ensures { λ r. ⌜ r ≡ laid streams (successStreams state (openOf streams) request) ⌝ }
 {
-    if requests::fetches(request) {
-        let asked = requests::asked_for(request);
-        let number = requests::number_of(asked, streams.next);
+    if request::fetches(request) {
+        let asked = request::asked_for(request);
+        let number = request::number_of(asked, streams.next);
         return streams::one_less(streams, number);
     }
-    let tag = requests::tag(request);
-    if tag == requests::RUN {
-        if states::in_transaction(state) {
+    let tag = request::tag(request);
+    if tag == request::RUN {
+        if state::in_transaction(state) {
             return streams::one_more(streams);
         }
         return streams;
     }
-    if tag == requests::BEGIN {
+    if tag == request::BEGIN {
         return streams::begun(streams);
     }
     streams
@@ -211,11 +212,11 @@ fn success_summary(state: State, next: u64, request: Request) -> Summary
     requires { ⌜ next ≤ 65536 ⌝ }
     ensures { λ r. ⌜ r ≡ successSummary state next request ⌝ }
 {
-    if requests::fetches(request) {
+    if request::fetches(request) {
         return Summary::HasMore(false);
     }
-    if requests::tag(request) == requests::RUN {
-        if states::in_transaction(state) {
+    if request::tag(request) == request::RUN {
+        if state::in_transaction(state) {
             return Summary::Stream(next as u32);
         }
         return Summary::Success;
@@ -229,7 +230,7 @@ fn fits(outcome: Outcome, request: Request) -> bool
 {
     match outcome {
         Outcome::Success => true,
-        Outcome::More => requests::fetches(request),
+        Outcome::More => request::fetches(request),
         Outcome::Failure => true,
     }
 }

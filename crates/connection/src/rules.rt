@@ -3,17 +3,16 @@
 use super::queue;
 use super::record::Control;
 use super::record::Queue;
-use super::record::Request;
-use super::record::State;
 use super::record::Streams;
-use super::states;
 use super::streams;
 use super::turn;
-use super::turn::Turn;
+use states::request::Request;
+use states::state;
+use states::state::State;
 ghost use mathlib.Core.Path.{_≡_};
 ghost use mathlib.Core.Bool.{Bool·beq};
 ghost use Prim.Native.Nat.{_≤_};
-ghost use Rattle.connection.specs.Rules.{isHanded, mayBeInFlight, openRule, resetRule, flightRule, countsRule, stateRules};
+ghost use Rattle.states.specs.Rules.{mayBeInFlight, openRule, resetRule, flightRule, countsRule, stateRules};
 ghost use Rattle.connection.specs.Record.{joined, openOf, front, kept, keepsRules};
 
 // Whether both hold, or neither.
@@ -26,29 +25,16 @@ fn are_alike(a: bool, b: bool) -> bool
     !b
 }
 
-fn is_handed(turn: Turn) -> bool
-    ensures { λ r. ⌜ r ≡ isHanded turn ⌝ }
-{
-    match turn {
-        Turn::Closes => false,
-        Turn::Resets => false,
-        Turn::Ignored => false,
-        Turn::Handed => true,
-        Turn::Full => false,
-        Turn::Unknown => false,
-    }
-}
-
 // Whether the first request can be in flight.
 fn may_be_in_flight(state: State, streams: Streams, request: Request) -> bool
     requires { ⌜ streams .count ≤ 8 ⌝ }
     ensures { λ r. ⌜ r ≡ mayBeInFlight state (openOf streams) request ⌝ }
 {
-    if states::is_in(state, State::Interrupted) {
-        return turn::is_work(request);
+    if state::is_in(state, State::Interrupted) {
+        return states::turn::is_work(request);
     }
     let turn = turn::turn_of(state, streams, request);
-    is_handed(turn)
+    states::turn::is_handed(turn)
 }
 
 // In flight only the first waiting, and only where it may be.
@@ -78,7 +64,7 @@ fn counts_hold(state: State, waiting: usize, accepted: u64, sent: u64) -> bool
     if accepted < sent {
         return false;
     }
-    if states::is_in(state, State::Defunct) {
+    if state::is_in(state, State::Defunct) {
         return waiting == 0;
     }
     accepted - sent == waiting as u64
@@ -89,7 +75,7 @@ fn open_holds(state: State, streams: Streams) -> bool
     requires { ⌜ streams .count ≤ 8 ⌝ }
     ensures { λ r. ⌜ r ≡ openRule state (openOf streams) ⌝ }
 {
-    are_alike(states::is_in(state, State::TxStreaming), 1 <= streams.count)
+    are_alike(state::is_in(state, State::TxStreaming), 1 <= streams.count)
 }
 
 // INTERRUPTED exactly if a RESET waits.
@@ -98,7 +84,7 @@ fn reset_holds(state: State, queue: Queue, waiting: usize) -> bool
     ensures { λ r. ⌜ r ≡ resetRule state (front queue waiting) ⌝ }
 {
     are_alike(
-        states::is_in(state, State::Interrupted),
+        state::is_in(state, State::Interrupted),
         queue::has_reset(queue, 0, waiting),
     )
 }

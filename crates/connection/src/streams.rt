@@ -5,8 +5,8 @@ ghost use mathlib.Core.Path.{_≡_};
 ghost use mathlib.Core.List.{[]};
 ghost use Prim.Native.Nat.{_≤_, _<_};
 ghost use lib.ListN.{take, drop};
-ghost use Rattle.connection.specs.Table.{has, noneOpen, oneMore, oneLess};
-ghost use Rattle.connection.specs.Rules.{numbersRule};
+ghost use Rattle.states.specs.Table.{has, noneOpen, oneMore, oneLess};
+ghost use Rattle.states.specs.Rules.{numbersRule};
 ghost use Rattle.connection.specs.Record.{openOf, laid};
 
 // Whether a number is open, looking from a place on.

@@ -1,29 +1,29 @@
 // Take: the turn of the first request that waits. Document 01, "Connection record".
 // The refusals come in this order: 24, 18.
 use super::answers::AfterTake;
-use super::answers::Failure;
-use super::answers::Summary;
-use super::answers::Taken;
 use super::changes;
 use super::queue;
 use super::record::Connection;
 use super::record::Control;
 use super::record::Queue;
-use super::record::State;
 use super::record::Streams;
 use super::rules;
-use super::states;
 use super::streams;
 use super::turn;
-use super::turn::Turn;
 use refusal::Refusal;
+use states::answers::Failure;
+use states::answers::Summary;
+use states::answers::Taken;
+use states::state;
+use states::state::State;
+use states::turn::Turn;
 ghost use mathlib.Core.Path.{_≡_};
 ghost use Prim.Native.Nat.{_+_, _-_};
 ghost use Rattle.refusal.specs.Answer.{result};
-ghost use Rattle.connection.specs.declared.record.State.the-variants.{Failed};
-ghost use Rattle.connection.specs.declared.answers.Summary.the-variants.{Failure as FAILURE};
-ghost use Rattle.connection.specs.declared.answers.Taken.the-variants.{Answered};
-ghost use Rattle.connection.specs.Table.{numberAfter, takeFirst};
+ghost use Rattle.states.specs.declared.state.State.the-variants.{Failed};
+ghost use Rattle.states.specs.declared.answers.Summary.the-variants.{Failure as FAILURE};
+ghost use Rattle.states.specs.declared.answers.Taken.the-variants.{Answered};
+ghost use Rattle.states.specs.Table.{numberAfter, takeFirst};
 ghost use Rattle.connection.specs.Record.{joined, front, kept, carried, toldTake, takeOf};
 ghost use Rattle.connection.specs.Private.Parts.{Answering, answeredIn, clearedIn};
 
@@ -45,7 +45,7 @@ pub fn step(control: Control, queue: Queue) -> AfterTake
         return answer(control, queue, Taken::Refused(Refusal::InvalidRecord));
     }
     let state = control.state;
-    if states::is_in(state, State::Defunct) {
+    if state::is_in(state, State::Defunct) {
         return answer(control, queue, Taken::Refused(Refusal::ConnectionDefunct));
     }
     if control.in_flight {

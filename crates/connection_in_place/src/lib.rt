@@ -1,14 +1,14 @@
 // The calls on a connection record that stays where it lies: each takes the record apart, calls the step on its parts, and stores what that
 // left. Document 01, "Connection record": "One connection record stays where it lies and each call changes it there".
-use connection::answers::Arrival;
-use connection::answers::Closing;
-use connection::answers::Outcome;
-use connection::answers::Reported;
-use connection::answers::Taken;
 use connection::record::Connection;
-use connection::record::Request;
+use states::answers::Arrival;
+use states::answers::Closing;
+use states::answers::Outcome;
+use states::answers::Reported;
+use states::answers::Taken;
+use states::request::Request;
 ghost use mathlib.Core.Path.{_≡_};
-ghost use Rattle.connection.specs.Answers.{toldArrival, toldTaken, toldReported, toldClosing};
+ghost use Rattle.states.specs.Answers.{toldArrival, toldTaken, toldReported, toldClosing};
 ghost use Rattle.connection.specs.Record.{arriveOf, takeOf, reportOf, closeOf};
 
 pub fn arrive(connection: &mut Connection, request: Request) -> Arrival

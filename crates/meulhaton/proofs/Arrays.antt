@@ -8,8 +8,8 @@ use native.Mathlib.Nat.{zero-add}
 use native.Mathlib.Omega.{arith}
 use lib.ListN.{length, take, drop, getD, set, length-map, List·getD-map, drop-of-length-le}
 use lib.Seq.{paste, paste-suc, take-all, length-take-le, getD-take}
-use Rattle.connection.specs.Requests.{any}
-use Rattle.connection.proofs.Lists.{scan-found, scan-passed, scan-ended}
+use Rattle.states.specs.Requests.{any}
+use Rattle.states.proofs.Lists.{scan-found, scan-passed, scan-ended}
 
 -- ---- the first n places, scanned from place i on
 module _ {A : Type 0} (f : A → Bool) (l : List A) (n : ℕ) (fits : n ≤ length l) (i : ℕ) where

@@ -7,23 +7,24 @@ use lib.Dec.{eqb, leb}
 use lib.ListN.{length, take}
 use borrow.Author.Tests.{eq-eqb, le-leb}
 use Rattle.refusal.specs.Answer.{Answer, result, refused, left, andThen}
-use Rattle.connection.specs.declared.record.State.{State}
-use Rattle.connection.specs.declared.record.State.the-variants.{Connected, Ready, Streaming, TxReady, TxStreaming, Failed, Interrupted, Defunct}
-use Rattle.connection.specs.declared.record.Request.{Request}
-use Rattle.connection.specs.declared.record.Request.the-variants.{Hello, Goodbye, Reset, Run, Begin, Commit, Rollback, Discard, Pull}
+use Rattle.states.specs.declared.state.State.{State}
+use Rattle.states.specs.declared.state.State.the-variants.{Connected, Ready, Streaming, TxReady, TxStreaming, Failed, Interrupted, Defunct}
+use Rattle.states.specs.declared.request.Request.{Request}
+use Rattle.states.specs.declared.request.Request.the-variants.{Hello, Goodbye, Reset, Run, Begin, Commit, Rollback, Discard, Pull}
 use Rattle.connection.specs.declared.record.Slot.{Slot}
 use Rattle.connection.specs.declared.record.Connection.{Connection}
-use Rattle.connection.specs.declared.answers.Outcome.{Outcome}
-use Rattle.connection.specs.declared.answers.Outcome.the-variants as O
-use Rattle.connection.specs.declared.answers.Failure.the-variants.{StreamsFull, StreamUnknown, EngineFailed}
-use Rattle.connection.specs.declared.answers.Summary.{Summary}
-use Rattle.connection.specs.declared.answers.Summary.the-variants as S
-use Rattle.connection.specs.Requests.{rank, inState, inRange, any}
-use Rattle.connection.specs.Table as T
-use Rattle.connection.specs.Table.{Table, Call, Said, Done, start, step, unlessDefunct, arriveT, reportT, fitting, reportFirst}
+use Rattle.states.specs.declared.answers.Outcome.{Outcome}
+use Rattle.states.specs.declared.answers.Outcome.the-variants as O
+use Rattle.states.specs.declared.answers.Failure.the-variants.{StreamsFull, StreamUnknown, EngineFailed}
+use Rattle.states.specs.declared.answers.Summary.{Summary}
+use Rattle.states.specs.declared.answers.Summary.the-variants as S
+use Rattle.states.specs.Requests.{rank, inState, inRange, any}
+use Rattle.states.specs.Table as T
+use Rattle.states.specs.Table.{Table, Call, Said, Done, start, step, unlessDefunct, arriveT, reportT, fitting, reportFirst}
 use Rattle.connection.specs.Record.{After, keepsRules, kept, carried, called, fresh}
-use Rattle.connection.specs.Claim.{callOf, run, events, leftBy, runT}
-use Rattle.connection.proofs.Bools.{by-test}
+use Rattle.states.specs.Events.{leftBy, runT}
+use Rattle.connection.specs.Claim.{callOf, run, events}
+use Rattle.states.proofs.Bools.{by-test}
 use Rattle.connection.proofs.Calls.{broken, standing, few}
 use Rattle.connection.proofs.Demand3.{demand3}
 use Rattle.meulhaton.specs.declared.image.Image.{Image}

@@ -2,7 +2,7 @@
 use mathlib.Core.Path.{_≡_, _∙_}
 use Rattle.refusal.specs.Answer.{result}
 use Rattle.connection.specs.declared.record.Connection.{Connection}
-use Rattle.connection.specs.Table.{Said}
+use Rattle.states.specs.Table.{Said}
 use Rattle.meulhaton.specs.declared.image.Image.{Image}
 use Rattle.meulhaton.specs.declared.replies.Reply.{Reply}
 use Rattle.meulhaton.specs.declared.replies.Answered.{Answered}

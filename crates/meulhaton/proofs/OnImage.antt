@@ -2,7 +2,7 @@
 use mathlib.Core.Path.{_≡_, sym, ap, _∙_}
 use mathlib.Core.Bool.{true, false}
 use Rattle.refusal.specs.Answer.{Answer}
-use Rattle.connection.specs.Table.{Done}
+use Rattle.states.specs.Table.{Done}
 use Rattle.connection.specs.Record.{kept, called}
 use Rattle.meulhaton.specs.declared.image.Image.{Image}
 use Rattle.meulhaton.specs.declared.replies.Answered.{Answered}

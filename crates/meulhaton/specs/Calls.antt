@@ -3,9 +3,9 @@ use Prim.Native.Nat.{ℕ}
 use mathlib.Core.Bool.{Bool, cond}
 use lib.Dec.{eqb, leb}
 use Rattle.refusal.specs.Answer.{Answer, refused}
-use Rattle.connection.specs.declared.answers.Outcome.{Outcome}
-use Rattle.connection.specs.declared.answers.Outcome.the-variants.{Success, More, Failure}
-use Rattle.connection.specs.Table.{Table, Done, unlessDefunct, arriveT, takeT, reportT, closeT}
+use Rattle.states.specs.declared.answers.Outcome.{Outcome}
+use Rattle.states.specs.declared.answers.Outcome.the-variants.{Success, More, Failure}
+use Rattle.states.specs.Table.{Table, Done, unlessDefunct, arriveT, takeT, reportT, closeT}
 use Rattle.connection.specs.Record.{kept, called}
 use Rattle.meulhaton.specs.declared.image.RequestImage.{RequestImage}
 use Rattle.meulhaton.specs.declared.image.Image.{Image}

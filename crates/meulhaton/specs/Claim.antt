@@ -6,17 +6,18 @@ use mathlib.Core.List.{List, [], _∷_, _++_, map}
 use mathlib.Core.Path.{_≡_}
 use lib.Dec.{eqb}
 use Rattle.refusal.specs.Answer.{result, refused, left, andThen}
-use Rattle.connection.specs.declared.record.State.{State}
-use Rattle.connection.specs.declared.record.Request.{Request}
+use Rattle.states.specs.declared.state.State.{State}
+use Rattle.states.specs.declared.request.Request.{Request}
 use Rattle.connection.specs.declared.record.Connection.{Connection}
-use Rattle.connection.specs.declared.answers.Outcome.{Outcome}
-use Rattle.connection.specs.declared.answers.Outcome.the-variants.{Success, More, Failure}
-use Rattle.connection.specs.declared.answers.Summary.{Summary}
-use Rattle.connection.specs.Requests.{rank}
-use Rattle.connection.specs.Table as T
-use Rattle.connection.specs.Table.{Table, Call, Done, start}
+use Rattle.states.specs.declared.answers.Outcome.{Outcome}
+use Rattle.states.specs.declared.answers.Outcome.the-variants.{Success, More, Failure}
+use Rattle.states.specs.declared.answers.Summary.{Summary}
+use Rattle.states.specs.Requests.{rank}
+use Rattle.states.specs.Table as T
+use Rattle.states.specs.Table.{Table, Call, Done, start}
 use Rattle.connection.specs.Record.{keepsRules, fresh}
-use Rattle.connection.specs.Claim.{Event, run, events}
+use Rattle.states.specs.Events.{Event}
+use Rattle.connection.specs.Claim.{run, events}
 use Rattle.meulhaton.specs.declared.image.Image.{Image}
 use Rattle.meulhaton.specs.declared.calls.OutcomeImage.{OutcomeImage}
 use Rattle.meulhaton.specs.declared.replies.Reply.{Reply}

@@ -5,13 +5,13 @@ use mathlib.Core.List.{map}
 use lib.Dec.{eqb, leb}
 use lib.IntN.{ℤ, pos}
 use lib.ListN.{take}
-use Rattle.connection.specs.declared.record.State.{State}
-use Rattle.connection.specs.declared.record.State.the-variants.{Connected, Ready, Streaming, TxReady, TxStreaming, Failed, Interrupted, Defunct}
-use Rattle.connection.specs.declared.record.Request.{Request}
-use Rattle.connection.specs.declared.record.Request.the-variants.{Hello, Goodbye, Reset, Run, Begin, Commit, Rollback, Discard, Pull}
+use Rattle.states.specs.declared.state.State.{State}
+use Rattle.states.specs.declared.state.State.the-variants.{Connected, Ready, Streaming, TxReady, TxStreaming, Failed, Interrupted, Defunct}
+use Rattle.states.specs.declared.request.Request.{Request}
+use Rattle.states.specs.declared.request.Request.the-variants.{Hello, Goodbye, Reset, Run, Begin, Commit, Rollback, Discard, Pull}
 use Rattle.connection.specs.declared.record.Slot.{Slot}
 use Rattle.connection.specs.declared.record.Connection.{Connection}
-use Rattle.connection.specs.Requests.{rank, any}
+use Rattle.states.specs.Requests.{rank, any}
 use Rattle.bolt.specs.Requests.{tag, HELLO, GOODBYE, RESET, RUN, BEGIN, COMMIT, ROLLBACK, DISCARD, PULL}
 use Rattle.connection.specs.Record.{slot, requestIn}
 use Rattle.meulhaton.specs.declared.image.RequestImage.{RequestImage}

@@ -2,11 +2,11 @@
 use Prim.Native.Nat.{ℕ}
 use mathlib.Core.Bool.{cond}
 use Rattle.refusal.specs.Answer.{Answer, result, refused, left}
-use Rattle.connection.specs.declared.answers.Failure.the-variants.{StreamsFull, StreamUnknown, EngineFailed}
-use Rattle.connection.specs.declared.answers.Summary.{Summary}
-use Rattle.connection.specs.declared.answers.Summary.the-variants as S
+use Rattle.states.specs.declared.answers.Failure.the-variants.{StreamsFull, StreamUnknown, EngineFailed}
+use Rattle.states.specs.declared.answers.Summary.{Summary}
+use Rattle.states.specs.declared.answers.Summary.the-variants as S
 use Rattle.connection.specs.declared.record.Connection.{Connection}
-use Rattle.connection.specs.Table.{Said, queued, closed, idle, handed, answered}
+use Rattle.states.specs.Table.{Said, queued, closed, idle, handed, answered}
 use Rattle.connection.specs.Record.{After}
 use Rattle.meulhaton.specs.declared.image.Image.{Image}
 use Rattle.meulhaton.specs.declared.replies.SummaryImage.{SummaryImage}

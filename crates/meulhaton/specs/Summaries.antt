@@ -4,9 +4,9 @@ use mathlib.Core.Bool.{Bool, cond, _&&_}
 use mathlib.Core.List.{List}
 use lib.Dec.{eqb}
 use Rattle.refusal.specs.Answer.{Answer, result, refused}
-use Rattle.connection.specs.declared.answers.Failure.the-variants.{StreamsFull, StreamUnknown, EngineFailed}
-use Rattle.connection.specs.declared.answers.Summary.{Summary}
-use Rattle.connection.specs.declared.answers.Summary.the-variants.{Ignored, Success, HasMore, Stream, Failure}
+use Rattle.states.specs.declared.answers.Failure.the-variants.{StreamsFull, StreamUnknown, EngineFailed}
+use Rattle.states.specs.declared.answers.Summary.{Summary}
+use Rattle.states.specs.declared.answers.Summary.the-variants.{Ignored, Success, HasMore, Stream, Failure}
 use Rattle.summaries.specs.Summaries.{packSummary}
 use Rattle.meulhaton.specs.declared.replies.SummaryImage.{SummaryImage}
 use Rattle.meulhaton.specs.Replies.{summaryImage}

@@ -4,7 +4,7 @@
 ghost use mathlib.Core.Path.{_≡_};
 ghost use Rattle.refusal.specs.Answer.{refused};
 ghost use Rattle.refusal.specs.Numbers.{numberOf};
-ghost use Rattle.connection.specs.Table.{unlessDefunct};
+ghost use Rattle.states.specs.Table.{unlessDefunct};
 ghost use Rattle.connection.specs.Record.{kept, called};
 ghost use Rattle.meulhaton.specs.Replies.{afterCall};
 ghost use Rattle.meulhaton.specs.Calls.{outcomeOf, callOn, arrive, take, report, close};
@@ -14,12 +14,12 @@ use crate::image::RequestImage;
 use crate::replies;
 use crate::replies::Answered;
 use crate::replies::Reply;
-use connection::answers::Outcome;
-use connection::record;
 use connection::record::Connection;
-use connection::record::State;
 use connection::rules;
 use refusal::Refusal;
+use states::answers::Outcome;
+use states::state;
+use states::state::State;
 
 // How the engine ended a request: success 0, success with more 1, failure 2.
 #[repr(C)]
@@ -49,7 +49,7 @@ fn refusing(image: Image, connection: Connection, why: Refusal) -> Answered
         return replies::refuse(image, Refusal::InvalidRecord);
     }
     let state = control.state;
-    if record::rank(state) == record::rank(State::Defunct) {
+    if state::rank(state) == state::rank(State::Defunct) {
         return replies::refuse(image, Refusal::ConnectionDefunct);
     }
     replies::refuse(image, why)

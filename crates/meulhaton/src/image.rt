@@ -4,17 +4,17 @@ ghost use mathlib.Core.Path.{_≡_};
 ghost use mathlib.Core.List.{map};
 ghost use Prim.Native.Nat.{_≤_};
 ghost use lib.ListN.{take};
-ghost use Rattle.connection.specs.Requests.{rank, any};
+ghost use Rattle.states.specs.Requests.{rank, any};
 ghost use Rattle.connection.specs.Record.{fresh as freshRecord};
 ghost use Rattle.meulhaton.specs.Image.{stateOf, requestOf, requestImage, bare, batch, isState, isRequest, unnamed, names, slotOf, slotImage, recordOf, imageOf};
-use connection::record;
 use connection::record::Connection;
 use connection::record::Control;
 use connection::record::Queue;
-use connection::record::Request;
 use connection::record::Slot;
-use connection::record::State;
 use connection::record::Streams;
+use states::request::Request;
+use states::state;
+use states::state::State;
 
 // A request: its tag, and n and qid of DISCARD and PULL.
 #[repr(C)]
@@ -68,7 +68,7 @@ fn state_of(number: u8) -> State
 fn is_state(number: u8) -> bool
     ensures { λ r. ⌜ r ≡ isState number ⌝ }
 {
-    record::rank(state_of(number)) == number
+    state::rank(state_of(number)) == number
 }
 
 pub fn request_of(image: RequestImage) -> Request
@@ -276,7 +276,7 @@ pub fn image_of(connection: Connection) -> Image
     let slots = queue.slots;
     let requests = slot_images(slots);
     let state = control.state;
-    let number = record::rank(state);
+    let number = state::rank(state);
     let streams = control.streams;
     let numbers = streams.numbers;
     Image {

@@ -3,8 +3,8 @@ ghost use mathlib.Core.Path.{_≡_};
 ghost use Rattle.refusal.specs.Numbers.{numberOf};
 ghost use Rattle.refusal.specs.Answer.{result, refused};
 ghost use Rattle.connection.specs.Record.{toldArrive, toldTake, toldReport, toldClose};
-ghost use Rattle.connection.specs.Table.{handed, answered};
-ghost use Rattle.connection.specs.declared.answers.Summary.the-variants as variant;
+ghost use Rattle.states.specs.Table.{handed, answered};
+ghost use Rattle.states.specs.declared.answers.Summary.the-variants as variant;
 ghost use Rattle.meulhaton.specs.Image.{imageOf};
 ghost use Rattle.meulhaton.specs.Replies.{summaryNumbers, summaryImage, saying, replyOf, afterCall};
 use crate::image;
@@ -14,15 +14,15 @@ use connection::answers::AfterArrive;
 use connection::answers::AfterClose;
 use connection::answers::AfterReport;
 use connection::answers::AfterTake;
-use connection::answers::Arrival;
-use connection::answers::Closing;
-use connection::answers::Failure;
-use connection::answers::Reported;
-use connection::answers::Summary;
-use connection::answers::Taken;
 use connection::record::Connection;
-use connection::record::Request;
 use refusal::Refusal;
+use states::answers::Arrival;
+use states::answers::Closing;
+use states::answers::Failure;
+use states::answers::Reported;
+use states::answers::Summary;
+use states::answers::Taken;
+use states::request::Request;
 
 // A summary: IGNORED 1, SUCCESS with nothing 2, with has_more 3, with qid 4; FAILURE for too many streams 5, for an unknown stream 6,
 // of the engine 7. `value` is has_more or qid.

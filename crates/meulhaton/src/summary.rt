@@ -8,10 +8,10 @@ use crate::replies;
 use crate::replies::SummaryImage;
 use crate::value;
 use crate::wire::Output;
-use connection::answers::Failure;
-use connection::answers::Summary;
 use packing::Packed;
 use refusal::Refusal;
+use states::answers::Failure;
+use states::answers::Summary;
 
 fn summary_of(image: SummaryImage) -> Summary
     ensures { λ r. ⌜ r ≡ summaryOf image ⌝ }

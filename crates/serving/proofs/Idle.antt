@@ -10,19 +10,19 @@ use lib.ListN.{length, length-append}
 use lib.Seq.{length-sets}
 use borrow.Author.Tests.{leb-false}
 use Rattle.refusal.specs.Answer.{Answer, result, refused}
-use Rattle.connection.specs.declared.record.State.the-variants.{Connected, Interrupted, Defunct}
-use Rattle.connection.specs.declared.record.Request.{Request}
+use Rattle.states.specs.declared.state.State.the-variants.{Connected, Interrupted, Defunct}
+use Rattle.states.specs.declared.request.Request.{Request}
 use Rattle.connection.specs.declared.record.Connection.{Connection}
-use Rattle.connection.specs.declared.answers.Outcome.the-variants.{Success}
-use Rattle.connection.specs.declared.turn.Turn.{Turn}
-use Rattle.connection.specs.declared.turn.Turn.the-variants as U
-use Rattle.connection.specs.Requests.{kindOf, inState, is, inRange}
+use Rattle.states.specs.declared.answers.Outcome.the-variants.{Success}
+use Rattle.states.specs.declared.turn.Turn.{Turn}
+use Rattle.states.specs.declared.turn.Turn.the-variants as U
+use Rattle.states.specs.Requests.{kindOf, inState, is, inRange}
 use Rattle.bolt.specs.Requests.{RESET}
-use Rattle.connection.specs.Appendix.{newState}
-use Rattle.connection.specs.Table as T
-use Rattle.connection.specs.Table.{Table, Said, Done, takeT, takeFirst, taken, turnOf as turnIn, arriveT, accept, reportT, reportFirst, reported, streamsAfter, response}
+use Rattle.states.specs.Appendix.{newState}
+use Rattle.states.specs.Table as T
+use Rattle.states.specs.Table.{Table, Said, Done, takeT, takeFirst, taken, turnOf as turnIn, arriveT, accept, reportT, reportFirst, reported, streamsAfter, response}
 use Rattle.connection.specs.Record.{After, kept, put, slot, keepsRules, carried, arriveOf, takeOf, reportOf}
-use Rattle.connection.proofs.Bools.{by-test}
+use Rattle.states.proofs.Bools.{by-test}
 use Rattle.connection.proofs.Calls.{fits, few}
 use Rattle.connection.proofs.Keeping.{put-own}
 use Rattle.connection.proofs.Waiting.{front-length}

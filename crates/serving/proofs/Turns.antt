@@ -9,17 +9,17 @@ use lib.ListN.{length, take, set, length-set}
 use lib.Seq.{take-suc-set}
 use Rattle.refusal.specs.Answer.{Answer, closesAfter}
 use Rattle.connection.specs.declared.record.Connection.{Connection}
-use Rattle.connection.specs.declared.record.Request.{Request}
-use Rattle.connection.specs.declared.answers.Arrival.{Arrival}
-use Rattle.connection.specs.declared.answers.Taken.{Taken}
-use Rattle.connection.specs.declared.answers.Taken.the-variants as T
+use Rattle.states.specs.declared.request.Request.{Request}
+use Rattle.states.specs.declared.answers.Arrival.{Arrival}
+use Rattle.states.specs.declared.answers.Taken.{Taken}
+use Rattle.states.specs.declared.answers.Taken.the-variants as T
 use Rattle.connection.specs.declared.answers.AfterArrive.{AfterArrive}
 use Rattle.connection.specs.declared.answers.AfterTake.{AfterTake}
 use Rattle.connection.specs.declared.answers.AfterReport.{AfterReport}
 use Rattle.connection.specs.declared.answers.AfterClose.{AfterClose}
-use Rattle.connection.specs.declared.answers.Summary.{Summary}
-use Rattle.connection.specs.Table.{Said}
-use Rattle.connection.specs.Answers.{toldArrival, toldTaken, toldReported}
+use Rattle.states.specs.declared.answers.Summary.{Summary}
+use Rattle.states.specs.Table.{Said}
+use Rattle.states.specs.Answers.{toldArrival, toldTaken, toldReported}
 use Rattle.connection.specs.Record.{After, arriveOf, takeOf, closeOf, toldArrive, toldTake, toldReport, toldClose}
 use Rattle.serving.specs.declared.Sent.{Sent}
 use Rattle.serving.specs.declared.Ending.{Ending}

@@ -4,8 +4,8 @@ use mathlib.Core.Path.{_≡_}
 use lib.ListN.{length}
 use Rattle.refusal.specs.Answer.{result}
 use Rattle.connection.specs.declared.record.Connection.{Connection}
-use Rattle.connection.specs.declared.record.Request.{Request}
-use Rattle.connection.specs.Table as T
+use Rattle.states.specs.declared.request.Request.{Request}
+use Rattle.states.specs.Table as T
 use Rattle.connection.specs.Record.{takeOf}
 use Rattle.serving.specs.Serving.{idle, served}
 

@@ -7,11 +7,11 @@ use lib.ListN.{take}
 use Rattle.refusal.specs.Answer.{Answer, result, refused, closesAfter}
 use Rattle.refusal.specs.Numbers.{numberOf}
 use Rattle.connection.specs.declared.record.Connection.{Connection}
-use Rattle.connection.specs.declared.record.Request.{Request}
-use Rattle.connection.specs.declared.answers.Outcome.the-variants.{Success}
-use Rattle.connection.specs.declared.answers.Summary.{Summary}
-use Rattle.connection.specs.Table as T
-use Rattle.connection.specs.Table.{Said}
+use Rattle.states.specs.declared.request.Request.{Request}
+use Rattle.states.specs.declared.answers.Outcome.the-variants.{Success}
+use Rattle.states.specs.declared.answers.Summary.{Summary}
+use Rattle.states.specs.Table as T
+use Rattle.states.specs.Table.{Said}
 use Rattle.connection.specs.Record.{After, arriveOf, takeOf, reportOf, closeOf}
 use Rattle.serving.specs.declared.Sent.{Sent}
 use Rattle.serving.specs.declared.Ending.{Ending}

@@ -4,22 +4,22 @@ ghost use mathlib.Core.List.{map};
 ghost use Prim.Native.Nat.{_≤_};
 ghost use lib.ListN.{take};
 ghost use Rattle.refusal.specs.Numbers.{numberOf};
-ghost use Rattle.connection.specs.declared.answers.Outcome.the-variants.{Success};
+ghost use Rattle.states.specs.declared.answers.Outcome.the-variants.{Success};
 ghost use Rattle.connection.specs.Record.{reportOf, toldTake};
 ghost use Rattle.serving.specs.Serving.{stopped, afterRefusal, refusing, turnOf, serving, turns, served, endOf, summaryIn, servedBy};
 use connection::answers::AfterTake;
-use connection::answers::Arrival;
-use connection::answers::Outcome;
-use connection::answers::Reported;
-use connection::answers::Summary;
-use connection::answers::Taken;
 use connection::arrive;
 use connection::close;
 use connection::record::Connection;
-use connection::record::Request;
 use connection::report;
 use connection::take;
 use refusal::Refusal;
+use states::answers::Arrival;
+use states::answers::Outcome;
+use states::answers::Reported;
+use states::answers::Summary;
+use states::answers::Taken;
+use states::request::Request;
 
 // Why serving ended: nothing is left to do until the next request, the connection closed, or a call was refused.
 pub enum Ending {

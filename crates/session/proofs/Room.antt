@@ -11,10 +11,10 @@ use Rattle.refusal.specs.Answer.{Answer, result, refused}
 use Rattle.handshake.specs.Version.{bytesOf}
 use Rattle.bolt.specs.Limits.{mostBytes}
 use Rattle.summaries.proofs.SummaryForms.{sized}
-use Rattle.connection.specs.declared.answers.Summary.{Summary}
+use Rattle.states.specs.declared.answers.Summary.{Summary}
 use Rattle.connection.specs.declared.record.Connection.{Connection}
-use Rattle.connection.specs.Table as T
-use Rattle.connection.specs.Table.{Said}
+use Rattle.states.specs.Table as T
+use Rattle.states.specs.Table.{Said}
 use Rattle.connection.specs.Record.{arriveOf}
 use Rattle.session.specs.declared.phase.Phase.{Phase}
 use Rattle.session.specs.declared.phase.Phase.the-variants.{Awaiting, Open}

@@ -23,7 +23,7 @@ use Rattle.packing.specs.declared.Packed.the-variants as P
 use Rattle.packing.proofs.Packing.{Packs, packed-there}
 use Rattle.summaries.specs.Summaries.{packSummary}
 use Rattle.summaries.proofs.SummaryForms.{sized}
-use Rattle.connection.specs.declared.answers.Summary.{Summary}
+use Rattle.states.specs.declared.answers.Summary.{Summary}
 use Rattle.serving.specs.declared.Sent.{Sent}
 use Rattle.session.specs.declared.reply.Reply.{Reply}
 use Rattle.session.specs.Text.{lineText, text}

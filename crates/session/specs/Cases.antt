@@ -21,9 +21,9 @@ use Rattle.markers.specs.Value.{count, countEntries}
 use Rattle.packing.specs.Packing.{pack, packItems, packEntries, packInteger, sizeHeader, narrowest, doublings}
 use Rattle.entries.specs.Lookup.{under}
 use Rattle.requests.specs.Requests.{hello, transaction, batch, run, tagged}
-use Rattle.connection.specs.Appendix.{newState, handsOver, handedSomewhere, works}
-use Rattle.connection.specs.Table.{ignores, namesOpen, isFull, turnOf as turnIn, successStreams, successSummary}
-use Rattle.connection.specs.Rules.{waitingRule, numbersRule, mayBeInFlight, countsRule, stateRules, rules}
+use Rattle.states.specs.Appendix.{newState, handsOver, handedSomewhere, works}
+use Rattle.states.specs.Table.{ignores, namesOpen, isFull, turnOf as turnIn, successStreams, successSummary}
+use Rattle.states.specs.Rules.{waitingRule, numbersRule, mayBeInFlight, countsRule, stateRules, rules}
 use Rattle.connection.specs.Record.{keepsRules}
 use Rattle.session.specs.Text.{lineText, text}
 use Rattle.serving.specs.Serving.{afterRefusal, turnOf, serving, served}

@@ -21,8 +21,8 @@ use Rattle.slices.specs.Equality.{same}
 use Rattle.markers.specs.Extents.{keyExtentAt, extentAt, leafExtent, containerExtent}
 use Rattle.packing.specs.Packing.{packInteger, narrowest, doublings, sizeHeader, pack, packItems, packEntries}
 use Rattle.packstream.specs.RoundTrip.{located, locatedItems, locatedEntries}
-use Rattle.connection.specs.declared.answers.Summary.{Summary}
-use Rattle.connection.specs.declared.answers.Summary.the-variants as S
+use Rattle.states.specs.declared.answers.Summary.{Summary}
+use Rattle.states.specs.declared.answers.Summary.the-variants as S
 use Rattle.entries.specs.Lookup.{under}
 use Rattle.requests.specs.Requests.{requestOf, hello, transaction, batch, run, tagged}
 use Rattle.summaries.specs.Summaries.{structureOf, packSummary}

@@ -15,7 +15,7 @@ use Rattle.values.specs.Decode.{decode}
 use Rattle.requests.specs.declared.request.Request.{Request}
 use Rattle.requests.specs.Requests.{requestOf}
 use Rattle.summaries.specs.Arrivals.{arrivalOf}
-use Rattle.connection.specs.declared.record.Request.{Request as Arriving}
+use Rattle.states.specs.declared.request.Request.{Request as Arriving}
 
 -- ---- the handshake
 -- the minor version agreed on by a line of twenty bytes

@@ -12,7 +12,7 @@ use Rattle.bolt.specs.Limits.{mostBytes}
 use Rattle.framing.specs.Chunking.{chunkOf, end as lastChunk}
 use Rattle.summaries.specs.Summaries.{packSummary}
 use Rattle.connection.specs.declared.record.Connection.{Connection}
-use Rattle.connection.specs.declared.answers.Summary.{Summary}
+use Rattle.states.specs.declared.answers.Summary.{Summary}
 use Rattle.connection.specs.Record.{fresh as freshRecord}
 use Rattle.session.specs.declared.phase.Phase.{Phase}
 use Rattle.session.specs.declared.phase.Phase.the-variants.{Awaiting, Open}

@@ -12,7 +12,6 @@ ghost use Rattle.requests.specs.Requests.{requestOf};
 ghost use Rattle.session.specs.Receiving.{alone, handshakeIn, arriving, framed, broughtIn};
 ghost use Rattle.session.specs.Private.Receiving.{told};
 use bolt::MOST_BYTES;
-use connection::record::Request;
 use framing::reader;
 use framing::reader::Frame;
 use handshake::negotiation;
@@ -22,6 +21,7 @@ use hex::Decoded;
 use refusal::Refusal;
 use requests::read;
 use requests::request::Reading;
+use states::request::Request;
 use summaries::arrival;
 
 // A keep-alive brings nothing.

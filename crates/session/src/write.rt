@@ -11,12 +11,12 @@ ghost use Rattle.session.specs.Session.{summaryLine, endLines, written};
 ghost use Rattle.session.specs.Private.Replies.{openingLines, replied};
 use super::reply::Opening;
 use super::reply::Reply;
-use connection::answers::Summary;
 use framing::writer;
 use framing::writer::Written;
 use packing::Packed;
 use serving::Ending;
 use serving::Sent;
+use states::answers::Summary;
 use summaries::summary;
 
 const LINE_END: u8 = 0x0A;

@@ -397,7 +397,7 @@ table-claim calls =
     }
 
 -- ---- 24
-pub number : Answer Said → ℕ
+abbrev pub number : Answer Said → ℕ
 number (result s) = 0
 number (refused n place) = n
 
@@ -406,7 +406,6 @@ abbrev pub Not24 : Answer Done → Type 0
 Not24 a = number (saidBy a) ≡ 24 → ⊥
 
 pub never24 : (t : Table) (x : Call) → Not24 (step t x)
-unfolding number
 never24 t (T.arrive r) =
     by-test Not24 (inState (t .state) Defunct) (λ _ e. omega arith)
     (λ _. by-test Not24 (inRange r)

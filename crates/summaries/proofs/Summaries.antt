@@ -22,9 +22,9 @@ use Rattle.packing.specs.Packing.{isTiny, packInteger, pack, packItems, packEnt
 use Rattle.packing.specs.declared.Packed.{Packed}
 use Rattle.packing.specs.declared.Packed.the-variants as P
 use Rattle.packing.proofs.Packing.{narrowest-most, length-tiny, length-integer, Packs, no-room, packs, packed-there}
-use Rattle.connection.specs.declared.answers.Failure.{Failure}
-use Rattle.connection.specs.declared.answers.Failure.the-variants as F
-use Rattle.connection.specs.declared.answers.Summary.the-variants as S
+use Rattle.states.specs.declared.answers.Failure.{Failure}
+use Rattle.states.specs.declared.answers.Failure.the-variants as F
+use Rattle.states.specs.declared.answers.Summary.the-variants as S
 use Rattle.entries.specs.Names.{qid}
 use Rattle.summaries.specs.Summaries.{textOf, has-more, code, message, packSummary}
 

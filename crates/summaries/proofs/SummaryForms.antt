@@ -18,10 +18,10 @@ use Rattle.packing.specs.Packing.{packInteger}
 use Rattle.packstream.specs.RoundTrip.{packable, packableItems, packableEntries}
 use Rattle.packstream.proofs.RoundTrip.{round-trip}
 use Rattle.packstream.proofs.Shortest.{shortest}
-use Rattle.connection.specs.declared.answers.Failure.{Failure}
-use Rattle.connection.specs.declared.answers.Failure.the-variants as F
-use Rattle.connection.specs.declared.answers.Summary.{Summary}
-use Rattle.connection.specs.declared.answers.Summary.the-variants as S
+use Rattle.states.specs.declared.answers.Failure.{Failure}
+use Rattle.states.specs.declared.answers.Failure.the-variants as F
+use Rattle.states.specs.declared.answers.Summary.{Summary}
+use Rattle.states.specs.declared.answers.Summary.the-variants as S
 use Rattle.summaries.specs.Summaries.{structureOf, packSummary}
 use Rattle.summaries.specs.SummaryForms.{isNumbered, Claim}
 use Rattle.summaries.proofs.Summaries.{ignored-form, success-form, has-more-size, integer-behind, stream-size, failure-form}

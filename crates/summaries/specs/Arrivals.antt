@@ -2,8 +2,8 @@
 -- Assumes nothing.
 use Rattle.requests.specs.declared.request.Request.{Request}
 use Rattle.requests.specs.declared.request.Request.the-variants as R
-use Rattle.connection.specs.declared.record.Request.{Request as Arriving}
-use Rattle.connection.specs.declared.record.Request.the-variants as A
+use Rattle.states.specs.declared.request.Request.{Request as Arriving}
+use Rattle.states.specs.declared.request.Request.the-variants as A
 
 abbrev pub arrivalOf : Request → Arriving
 arrivalOf (R.Hello agent scheme principal credentials routing) = A.Hello

@@ -7,9 +7,9 @@ use Rattle.numbers.specs.BigEndian.{bytesOf}
 use Rattle.numbers.specs.TwosComplement.{fitsIn, bitsOf}
 use Rattle.markers.specs.Value.{count, countEntries}
 use Rattle.packing.specs.Packing.{narrowest, doublings, packInteger, sizeHeader, pack, packItems, packEntries}
-use Rattle.connection.specs.declared.answers.Failure.the-variants as F
-use Rattle.connection.specs.declared.answers.Summary.{Summary}
-use Rattle.connection.specs.declared.answers.Summary.the-variants as S
+use Rattle.states.specs.declared.answers.Failure.the-variants as F
+use Rattle.states.specs.declared.answers.Summary.{Summary}
+use Rattle.states.specs.declared.answers.Summary.the-variants as S
 use Rattle.summaries.specs.Summaries.{code, message, textOf, packSummary}
 
 record Case : Type 0 where

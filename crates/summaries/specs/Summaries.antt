@@ -4,10 +4,10 @@ use mathlib.Core.List.{List, [], _∷_}
 use lib.IntN.{pos}
 use Rattle.markers.specs.Value.{Value, boolean, integer, string, dictionary, structure, no-items, item, Entries, no-entries, entry}
 use Rattle.packing.specs.Packing.{pack}
-use Rattle.connection.specs.declared.answers.Failure.{Failure}
-use Rattle.connection.specs.declared.answers.Failure.the-variants as F
-use Rattle.connection.specs.declared.answers.Summary.{Summary}
-use Rattle.connection.specs.declared.answers.Summary.the-variants as S
+use Rattle.states.specs.declared.answers.Failure.{Failure}
+use Rattle.states.specs.declared.answers.Failure.the-variants as F
+use Rattle.states.specs.declared.answers.Summary.{Summary}
+use Rattle.states.specs.declared.answers.Summary.the-variants as S
 use Rattle.entries.specs.Names.{qid}
 
 -- "has_more"

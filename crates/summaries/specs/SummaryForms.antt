@@ -12,8 +12,8 @@ use Rattle.markers.specs.Value.{Value, forget}
 use Rattle.values.specs.Decode.{decode}
 use Rattle.bolt.specs.Limits.{mostBytes}
 use Rattle.packstream.specs.RoundTrip.{located}
-use Rattle.connection.specs.declared.answers.Summary.{Summary}
-use Rattle.connection.specs.declared.answers.Summary.the-variants as S
+use Rattle.states.specs.declared.answers.Summary.{Summary}
+use Rattle.states.specs.declared.answers.Summary.the-variants as S
 use Rattle.summaries.specs.Summaries.{structureOf, packSummary}
 
 -- the number of a stream is a u32

@@ -4,7 +4,7 @@ ghost use Rattle.summaries.specs.Arrivals.{arrivalOf};
 use requests::request::Request;
 
 // The request as it arrives at the connection.
-pub fn arrival_of(request: Request) -> connection::record::Request
+pub fn arrival_of(request: Request) -> states::request::Request
     ensures { λ r. ⌜ r ≡ arrivalOf request ⌝ }
 {
     match request {
@@ -14,22 +14,22 @@ pub fn arrival_of(request: Request) -> connection::record::Request
             principal: _,
             credentials: _,
             routing: _,
-        } => connection::record::Request::Hello,
-        Request::Goodbye => connection::record::Request::Goodbye,
-        Request::Reset => connection::record::Request::Reset,
+        } => states::request::Request::Hello,
+        Request::Goodbye => states::request::Request::Goodbye,
+        Request::Reset => states::request::Request::Reset,
         Request::Run {
             query: _,
             parameters: _,
             transaction: _,
-        } => connection::record::Request::Run,
-        Request::Begin(_) => connection::record::Request::Begin,
-        Request::Commit => connection::record::Request::Commit,
-        Request::Rollback => connection::record::Request::Rollback,
-        Request::Discard(batch) => connection::record::Request::Discard {
+        } => states::request::Request::Run,
+        Request::Begin(_) => states::request::Request::Begin,
+        Request::Commit => states::request::Request::Commit,
+        Request::Rollback => states::request::Request::Rollback,
+        Request::Discard(batch) => states::request::Request::Discard {
             n: batch.n,
             qid: batch.qid,
         },
-        Request::Pull(batch) => connection::record::Request::Pull {
+        Request::Pull(batch) => states::request::Request::Pull {
             n: batch.n,
             qid: batch.qid,
         },

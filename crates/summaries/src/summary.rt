@@ -4,12 +4,12 @@ ghost use mathlib.Core.Path.{_≡_};
 ghost use lib.ListN.{length};
 ghost use Rattle.refusal.specs.Answer.{result, left};
 ghost use Rattle.packing.specs.Packing.{fitted, leaves, telling, told};
-ghost use Rattle.connection.specs.declared.answers.Summary.the-variants as S;
+ghost use Rattle.states.specs.declared.answers.Summary.the-variants as S;
 ghost use Rattle.summaries.specs.Summaries.{packSummary};
-use connection::answers::Failure;
-use connection::answers::Summary;
 use packing::Packed;
 use refusal::Refusal;
+use states::answers::Failure;
+use states::answers::Summary;
 
 // How many bytes the summary of a RUN in a transaction takes.
 fn stream_length(number: u32) -> usize

@@ -9,9 +9,9 @@
 //     06  FAILURE Parts.Engine.Failed
 use crate::answers;
 use crate::operands;
-use connection::answers::Failure;
-use connection::answers::Summary;
 use console::output;
+use states::answers::Failure;
+use states::answers::Summary;
 
 // Whether the operands name a summary, and nothing is missing or left over.
 pub fn names_summary(operands: &[u8]) -> bool {

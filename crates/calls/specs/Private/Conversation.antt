@@ -1,11 +1,11 @@
 -- What the calls of a conversation answer: each is made on the record as the call before it left it. Assumes nothing.
 use mathlib.Core.List.{List, [], _∷_, _++_}
 use Rattle.refusal.specs.Answer.{Answer}
-use Rattle.connection.specs.Table.{Said}
+use Rattle.states.specs.Table.{Said}
 use Rattle.connection.specs.declared.record.Connection.{Connection}
-use Rattle.connection.specs.declared.record.Request.{Request}
-use Rattle.connection.specs.declared.answers.Outcome.{Outcome}
-use Rattle.connection.specs.Answers.{toldArrival, toldTaken, toldReported, toldClosing}
+use Rattle.states.specs.declared.request.Request.{Request}
+use Rattle.states.specs.declared.answers.Outcome.{Outcome}
+use Rattle.states.specs.Answers.{toldArrival, toldTaken, toldReported, toldClosing}
 use Rattle.connection.specs.Record.{arriveOf, takeOf, reportOf, closeOf}
 use Rattle.calls.specs.declared.conversation.Heard.{Heard}
 

@@ -3,26 +3,25 @@ use Prim.Native.Nat.{ℕ, _+_, _-_, _<_, _≤_}
 use mathlib.Core.Path.{_≡_}
 use mathlib.Core.Bool.{true, false, cond, _&&_}
 use mathlib.Core.List.{[], _∷_, _++_}
-use lib.Dec.{eqb}
 use lib.ListN.{length}
-use Rattle.connection.specs.declared.record.State.{State}
-use Rattle.connection.specs.declared.record.State.the-variants.{Ready, Streaming, TxReady, Failed, Defunct}
-use Rattle.connection.specs.declared.record.Request.{Request}
+use Rattle.states.specs.declared.state.State.{State}
+use Rattle.states.specs.declared.state.State.the-variants.{Defunct}
+use Rattle.states.specs.declared.request.Request.{Request}
 use Rattle.connection.specs.declared.record.Streams.{Streams}
 use Rattle.connection.specs.declared.record.Queue.{Queue}
 use Rattle.connection.specs.declared.record.Control.{Control}
 use Rattle.connection.specs.declared.record.Connection.{Connection}
-use Rattle.connection.specs.declared.answers.Outcome.{Outcome}
-use Rattle.connection.specs.declared.answers.Summary.{Summary}
-use Rattle.connection.specs.declared.answers.Reported.the-variants.{Answered}
+use Rattle.states.specs.declared.answers.Outcome.{Outcome}
+use Rattle.states.specs.declared.answers.Summary.{Summary}
+use Rattle.states.specs.declared.answers.Reported.the-variants.{Answered}
 use Rattle.connection.specs.declared.answers.AfterReport.{AfterReport}
-use Rattle.connection.specs.declared.answers.Taken.the-variants as T
+use Rattle.states.specs.declared.answers.Taken.the-variants as T
 use Rattle.connection.specs.declared.answers.AfterTake.{AfterTake}
-use Rattle.connection.specs.Requests.{is, isKind, kindOf, inState}
-use Rattle.bolt.specs.Requests.{Kind, HELLO, RUN}
-use Rattle.connection.specs.Appendix.{handsOver, newState}
-use Rattle.connection.specs.Table.{Open, noneOpen, isFull, numberAfter, fitting, response, streamsAfter}
-use Rattle.connection.specs.Rules.{mayBeInFlight}
+use Rattle.states.specs.Requests.{is, kindOf, inState}
+use Rattle.bolt.specs.Requests.{RUN}
+use Rattle.states.specs.Appendix.{handsOver, newState}
+use Rattle.states.specs.Table.{Open, noneOpen, isFull, numberAfter, fitting, response, streamsAfter}
+use Rattle.states.specs.Rules.{mayBeInFlight}
 use Rattle.connection.specs.Record.{joined, front, linedUp, openOf, laid}
 use Rattle.connection.specs.Private.Queue.{behind, firstIn}
 
@@ -77,13 +76,6 @@ clearedIn k q s summary = record {
 -- the first is in flight
 abbrev pub handedIn : Control → Control
 handedIn k = record { state = k .state; «in_flight» = true; waiting = k .waiting; streams = k .streams; accepted = k .accepted; sent = k .sent }
-
--- the state after the last batch of a stream, with `left` open, and after a failure
-abbrev pub lastState : State → ℕ → State
-lastState s left = cond (eqb left 0) (cond (inState s Streaming) Ready TxReady) s
-
-abbrev pub failureState : Kind → State
-failureState k = cond (isKind k HELLO) Defunct Failed
 
 -- a report's outcome, with its summary
 abbrev pub settledIn : Control → Queue → Request → Outcome → Summary → AfterReport

@@ -2,8 +2,8 @@
 use Prim.Native.Nat.{ℕ}
 use mathlib.Core.List.{List, map}
 use lib.ListN.{take, drop, getD}
-use Rattle.connection.specs.declared.record.Request.{Request}
-use Rattle.connection.specs.declared.record.Request.the-variants.{Hello}
+use Rattle.states.specs.declared.request.Request.{Request}
+use Rattle.states.specs.declared.request.Request.the-variants.{Hello}
 use Rattle.connection.specs.declared.record.Queue.{Queue}
 use Rattle.connection.specs.Record.{slot, requestIn}
 

@@ -1,14 +1,14 @@
 -- `connection_in_place::arrive` meets its contract: `InPlace`'s walk, where the record's parts are passed to `arrive::step`, and with them the request. Assumes nothing.
 use mathlib.Core.Path.{_≡_, refl, ap}
 use denote.Struct.Laws.{owed}
-use Rattle.connection.specs.Answers.{toldArrival}
+use Rattle.states.specs.Answers.{toldArrival}
 use Rattle.connection.specs.Record.{After, joined, toldArrive, arriveOf}
 use Rattle.connection.proofs.answers.AfterArrive as U
 use Rattle.connection.proofs.answers.AfterArrive.Laws as U′
-use Rattle.connection.proofs.answers.Arrival as R
-use Rattle.connection.proofs.answers.Arrival.Laws as R′
-use Rattle.connection.proofs.record.Request as X
-use Rattle.connection.proofs.record.Request.Laws as X′
+use Rattle.states.proofs.answers.Arrival as R
+use Rattle.states.proofs.answers.Arrival.Laws as R′
+use Rattle.states.proofs.request.Request as X
+use Rattle.states.proofs.request.Request.Laws as X′
 use Rattle.connection.proofs.arrive.step.Symbol as step
 use Rattle.connection.proofs.arrive.step.Met as step-thm
 use Rattle.in_place.proofs.InPlace.{Plain, of-field, Two, Says, apart-with, apart-with-walk, in-place}

@@ -1,12 +1,12 @@
 -- `connection_in_place::close` meets its contract: `InPlace`'s walk, where the record's parts are passed to `close::step`. Assumes nothing.
 use mathlib.Core.Path.{_≡_, refl, ap}
 use denote.Struct.Laws.{owed}
-use Rattle.connection.specs.Answers.{toldClosing}
+use Rattle.states.specs.Answers.{toldClosing}
 use Rattle.connection.specs.Record.{After, joined, toldClose, closeOf}
 use Rattle.connection.proofs.answers.AfterClose as U
 use Rattle.connection.proofs.answers.AfterClose.Laws as U′
-use Rattle.connection.proofs.answers.Closing as R
-use Rattle.connection.proofs.answers.Closing.Laws as R′
+use Rattle.states.proofs.answers.Closing as R
+use Rattle.states.proofs.answers.Closing.Laws as R′
 use Rattle.connection.proofs.close.step.Symbol as step
 use Rattle.connection.proofs.close.step.Met as step-thm
 use Rattle.in_place.proofs.InPlace.{Plain, of-field, Two, Says, apart, apart-walk, in-place}

@@ -1,14 +1,14 @@
 -- `connection_in_place::report` meets its contract: `InPlace`'s walk, where the record's parts are passed to `report::step`, and with them the outcome. Assumes nothing.
 use mathlib.Core.Path.{_≡_, refl, ap}
 use denote.Struct.Laws.{owed}
-use Rattle.connection.specs.Answers.{toldReported}
+use Rattle.states.specs.Answers.{toldReported}
 use Rattle.connection.specs.Record.{After, joined, toldReport, reportOf}
 use Rattle.connection.proofs.answers.AfterReport as U
 use Rattle.connection.proofs.answers.AfterReport.Laws as U′
-use Rattle.connection.proofs.answers.Reported as R
-use Rattle.connection.proofs.answers.Reported.Laws as R′
-use Rattle.connection.proofs.answers.Outcome as X
-use Rattle.connection.proofs.answers.Outcome.Laws as X′
+use Rattle.states.proofs.answers.Reported as R
+use Rattle.states.proofs.answers.Reported.Laws as R′
+use Rattle.states.proofs.answers.Outcome as X
+use Rattle.states.proofs.answers.Outcome.Laws as X′
 use Rattle.connection.proofs.report.step.Symbol as step
 use Rattle.connection.proofs.report.step.Met as step-thm
 use Rattle.in_place.proofs.InPlace.{Plain, of-field, Two, Says, apart-with, apart-with-walk, in-place}

@@ -1,12 +1,12 @@
 -- `connection_in_place::take` meets its contract: `InPlace`'s walk, where the record's parts are passed to `take::step`. Assumes nothing.
 use mathlib.Core.Path.{_≡_, refl, ap}
 use denote.Struct.Laws.{owed}
-use Rattle.connection.specs.Answers.{toldTaken}
+use Rattle.states.specs.Answers.{toldTaken}
 use Rattle.connection.specs.Record.{After, joined, toldTake, takeOf}
 use Rattle.connection.proofs.answers.AfterTake as U
 use Rattle.connection.proofs.answers.AfterTake.Laws as U′
-use Rattle.connection.proofs.answers.Taken as R
-use Rattle.connection.proofs.answers.Taken.Laws as R′
+use Rattle.states.proofs.answers.Taken as R
+use Rattle.states.proofs.answers.Taken.Laws as R′
 use Rattle.connection.proofs.take.step.Symbol as step
 use Rattle.connection.proofs.take.step.Met as step-thm
 use Rattle.in_place.proofs.InPlace.{Plain, of-field, Two, Says, apart, apart-walk, in-place}

@@ -1,8 +1,8 @@
 -- `serve::succeed` meets its contract: the report, in the words of a take. Assumes nothing.
 use mathlib.Core.Path.{sym, ap}
 use borrow.Author.Needs.{needs}
-use Rattle.connection.specs.declared.answers.Taken.the-variants as T
-use Rattle.connection.specs.Answers.{toldReported}
+use Rattle.states.specs.declared.answers.Taken.the-variants as T
+use Rattle.states.specs.Answers.{toldReported}
 use Rattle.serving.proofs.Turns.{as-taken}
 use Rattle.serving.proofs.succeed.Statement.{statement}
 use Rattle.serving.proofs.succeed.Tie as tie

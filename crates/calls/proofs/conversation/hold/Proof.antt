@@ -30,24 +30,24 @@ use denote.Triple.Spec.{Meets, tripleOf}
 use denote.Triple.Table.{entered, cited}
 use denote.Triple.Walked.{says, Stays, stay-dropped, walkOf, goes-dropped, ends-at, walked, walk-meets}
 use Rattle.connection.specs.declared.record.Connection.{Connection}
-use Rattle.connection.specs.declared.record.Request.{Request}
-use Rattle.connection.specs.declared.answers.Outcome.{Outcome}
-use Rattle.connection.specs.Answers.{toldArrival, toldTaken, toldReported, toldClosing}
+use Rattle.states.specs.declared.request.Request.{Request}
+use Rattle.states.specs.declared.answers.Outcome.{Outcome}
+use Rattle.states.specs.Answers.{toldArrival, toldTaken, toldReported, toldClosing}
 use Rattle.connection.specs.Record.{arriveOf, takeOf, reportOf, closeOf}
 use Rattle.connection.proofs.record.Connection as T
 use Rattle.connection.proofs.record.Connection.Laws as T′
-use Rattle.connection.proofs.record.Request as Q
-use Rattle.connection.proofs.record.Request.Laws as Q′
-use Rattle.connection.proofs.answers.Outcome as O
-use Rattle.connection.proofs.answers.Outcome.Laws as O′
-use Rattle.connection.proofs.answers.Arrival as B
-use Rattle.connection.proofs.answers.Arrival.Laws as B′
-use Rattle.connection.proofs.answers.Taken as K
-use Rattle.connection.proofs.answers.Taken.Laws as K′
-use Rattle.connection.proofs.answers.Reported as P
-use Rattle.connection.proofs.answers.Reported.Laws as P′
-use Rattle.connection.proofs.answers.Closing as D
-use Rattle.connection.proofs.answers.Closing.Laws as D′
+use Rattle.states.proofs.request.Request as Q
+use Rattle.states.proofs.request.Request.Laws as Q′
+use Rattle.states.proofs.answers.Outcome as O
+use Rattle.states.proofs.answers.Outcome.Laws as O′
+use Rattle.states.proofs.answers.Arrival as B
+use Rattle.states.proofs.answers.Arrival.Laws as B′
+use Rattle.states.proofs.answers.Taken as K
+use Rattle.states.proofs.answers.Taken.Laws as K′
+use Rattle.states.proofs.answers.Reported as P
+use Rattle.states.proofs.answers.Reported.Laws as P′
+use Rattle.states.proofs.answers.Closing as D
+use Rattle.states.proofs.answers.Closing.Laws as D′
 use Rattle.connection_in_place.proofs.arrive as arrive
 use Rattle.connection_in_place.proofs.arrive.Symbol.{name as #arrive, routine as arrive-routine}
 use Rattle.connection_in_place.proofs.arrive.Met as arrive-thm

@@ -4,7 +4,7 @@ use mathlib.Core.Path.{sym, ap, _∙_}
 use native.Mathlib.Omega.{arith}
 use borrow.Author.Tests.{eq-eqb, ne-eqb}
 use Rattle.connection.specs.declared.record.Control.{Control}
-use Rattle.connection.specs.declared.answers.Arrival.the-variants.{Closed}
+use Rattle.states.specs.declared.answers.Arrival.the-variants.{Closed}
 use Rattle.connection.specs.Record.{joined, toldArrive}
 use Rattle.connection.specs.Private.Parts.{defunctIn}
 use Rattle.connection.proofs.Keeping.{Fits, accept-closes, accept-resets, accept-queues}

@@ -1,7 +1,7 @@
 -- `connection::arrive::enqueue` meets its contract: the request is put behind the others, and counted. Assumes nothing.
 use borrow.Author.Needs.{needs}
 use mathlib.Core.Path.{_∙_}
-use Rattle.connection.specs.declared.answers.Arrival.the-variants.{Queued}
+use Rattle.states.specs.declared.answers.Arrival.the-variants.{Queued}
 use Rattle.connection.specs.Record.{joined}
 use Rattle.connection.proofs.arrive.enqueue.Statement.{statement}
 use Rattle.connection.proofs.arrive.enqueue.Tie as tie

@@ -7,8 +7,8 @@ use lib.ListN.{length}
 use borrow.Author.Tests.{not-true, not-false, le-leb, lt-leb}
 use Rattle.refusal.specs.Answer.{result, refused}
 use Rattle.connection.specs.declared.record.Connection.{Connection}
-use Rattle.connection.specs.Requests.{inRange}
-use Rattle.connection.specs.Table.{accept, arriveT}
+use Rattle.states.specs.Requests.{inRange}
+use Rattle.states.specs.Table.{accept, arriveT}
 use Rattle.connection.specs.Record.{joined, front, kept, keepsRules, carried, toldArrive, arriveOf}
 use Rattle.connection.proofs.Calls.{broken, refuse-defunct, go-on, few, fewer, arrive-by}
 use Rattle.connection.proofs.Lengths.{slots}

@@ -1,7 +1,7 @@
 -- `connection::changes::defunct` meets its contract: the streams are emptied. Assumes nothing.
 use borrow.Author.Needs.{needs}
 use mathlib.Core.Path.{ap}
-use Rattle.connection.specs.declared.record.State.the-variants.{Defunct}
+use Rattle.states.specs.declared.state.State.the-variants.{Defunct}
 use Rattle.connection.specs.declared.record.Streams.{Streams}
 use mathlib.Core.Bool.{false}
 use Rattle.connection.proofs.changes.defunct.Statement.{statement}

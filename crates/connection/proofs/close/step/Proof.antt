@@ -4,8 +4,8 @@ use mathlib.Core.Path.{sym, ap, _∙_}
 use borrow.Author.Tests.{not-true, not-false}
 use Rattle.refusal.specs.Answer.{result}
 use Rattle.connection.specs.declared.record.Control.{Control}
-use Rattle.connection.specs.declared.answers.Closing.the-variants.{Closed}
-use Rattle.connection.specs.Table.{closeT, defunct, closed}
+use Rattle.states.specs.declared.answers.Closing.the-variants.{Closed}
+use Rattle.states.specs.Table.{closeT, defunct, closed}
 use Rattle.connection.specs.Record.{joined, kept, toldClose}
 use Rattle.connection.proofs.Calls.{broken, refuse-defunct, go-on}
 use Rattle.connection.proofs.close.step.Statement.{statement}

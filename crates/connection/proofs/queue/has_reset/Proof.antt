@@ -5,7 +5,7 @@ use mathlib.Core.List.{map}
 use Prim.Native.Nat.{_-_}
 use lib.ListN.{take, drop}
 use borrow.Author.Tests.{eq-eqb, ne-eqb}
-use Rattle.connection.specs.Requests.{is, any}
+use Rattle.states.specs.Requests.{is, any}
 use Rattle.bolt.specs.Requests.{RESET}
 use Rattle.connection.specs.Record.{requestIn}
 use Rattle.connection.proofs.Lengths.{slots}

@@ -5,7 +5,7 @@ use mathlib.Core.Bool.{not}
 use mathlib.Core.List.{map}
 use Prim.Native.Nat.{_-_}
 use lib.ListN.{take, drop}
-use Rattle.connection.specs.Requests.{outOfRange, any}
+use Rattle.states.specs.Requests.{outOfRange, any}
 use Rattle.connection.specs.Record.{requestIn}
 use Rattle.connection.proofs.Lengths.{slots}
 use Rattle.connection.proofs.Waiting.{found, passed, ended}

@@ -2,7 +2,7 @@
 use borrow.Author.Needs.{needs}
 use mathlib.Core.Path.{sym, _∙_}
 use borrow.Author.Tests.{eq-eqb, ne-eqb}
-use Rattle.connection.specs.Requests.{kindOf}
+use Rattle.states.specs.Requests.{kindOf}
 use Rattle.connection.proofs.Outcomes.{failure-by}
 use Rattle.connection.proofs.report.after_failure.Statement.{statement}
 use Rattle.connection.proofs.report.after_failure.Tie as tie

@@ -2,10 +2,10 @@
 use borrow.Author.Needs.{needs}
 use mathlib.Core.Path.{refl, sym, ap, _∙_}
 use mathlib.Core.Bool.{Bool, cond}
-use Rattle.connection.specs.declared.record.State.the-variants.{Ready, Streaming, TxReady, TxStreaming}
+use Rattle.states.specs.declared.state.State.the-variants.{Ready, Streaming, TxReady, TxStreaming}
 use Rattle.bolt.specs.Requests.{HELLO, GOODBYE, RESET, RUN, BEGIN, COMMIT, ROLLBACK, DISCARD, PULL}
 use Rattle.connection.proofs.Outcomes.{state-by}
-use Rattle.connection.proofs.Rows.{after-success, after-batch}
+use Rattle.states.proofs.Rows.{after-success, after-batch}
 use Rattle.connection.proofs.report.after_success.Statement.{statement}
 use Rattle.connection.proofs.report.after_success.Tie as tie
 

@@ -1,11 +1,11 @@
 -- `connection::report::new_state` meets its contract: in each arm the match told the outcome. Assumes nothing.
 use borrow.Author.Needs.{needs}
 use mathlib.Core.Path.{sym, ap, _∙_}
-use Rattle.connection.specs.declared.answers.Outcome.{Outcome}
-use Rattle.connection.specs.Requests.{kindOf}
-use Rattle.connection.specs.Appendix.{newState}
-use Rattle.connection.specs.Table.{response}
-use Rattle.connection.proofs.Rows.{after-failure, after-more}
+use Rattle.states.specs.declared.answers.Outcome.{Outcome}
+use Rattle.states.specs.Requests.{kindOf}
+use Rattle.states.specs.Appendix.{newState}
+use Rattle.states.specs.Table.{response}
+use Rattle.states.proofs.Rows.{after-failure, after-more}
 use Rattle.connection.proofs.report.new_state.Statement.{statement}
 use Rattle.connection.proofs.report.new_state.Tie as tie
 

@@ -6,15 +6,15 @@ use Prim.Native.Nat.{_-_}
 use native.Mathlib.Omega.{arith}
 use borrow.Author.Tests.{not-true, not-false}
 use Rattle.refusal.specs.Answer.{result}
-use Rattle.connection.specs.declared.record.State.the-variants.{Interrupted}
-use Rattle.connection.specs.declared.record.Request.{Request}
+use Rattle.states.specs.declared.state.State.the-variants.{Interrupted}
+use Rattle.states.specs.declared.request.Request.{Request}
 use Rattle.connection.specs.declared.record.Queue.{Queue}
 use Rattle.connection.specs.declared.record.Control.{Control}
-use Rattle.connection.specs.declared.answers.Outcome.{Outcome}
-use Rattle.connection.specs.declared.answers.Summary.{Summary}
-use Rattle.connection.specs.Requests.{inState}
-use Rattle.connection.specs.Table.{Done, answer, fitting, summaryOf, settled, reportFirst}
-use Rattle.connection.specs.Rules.{mayBeInFlight}
+use Rattle.states.specs.declared.answers.Outcome.{Outcome}
+use Rattle.states.specs.declared.answers.Summary.{Summary}
+use Rattle.states.specs.Requests.{inState}
+use Rattle.states.specs.Table.{Done, answer, fitting, summaryOf, settled, reportFirst}
+use Rattle.states.specs.Rules.{mayBeInFlight}
 use Rattle.connection.specs.Record.{joined, front, openOf, kept, carried, toldReport}
 use Rattle.connection.specs.Private.Queue.{behind, firstIn}
 use Rattle.connection.specs.Private.Parts.{settledIn}
@@ -22,8 +22,8 @@ use Rattle.connection.proofs.Keeping.{Fits, answers}
 use Rattle.connection.proofs.Lengths.{slots, streams}
 use Rattle.connection.proofs.Numbers.{laid-own}
 use Rattle.connection.proofs.Outcomes.{settled-is, first-by, reported-by}
-use Rattle.connection.proofs.Standing.{may-out}
-use Rattle.connection.proofs.Turns.{handed-facts}
+use Rattle.states.proofs.Standing.{may-out}
+use Rattle.states.proofs.Turns.{handed-facts}
 use Rattle.connection.proofs.report.report_first.Statement.{statement}
 use Rattle.connection.proofs.report.report_first.Tie as tie
 

@@ -1,8 +1,8 @@
 -- `connection::report::streams_after` meets its contract: in each arm the match told the outcome. Assumes nothing.
 use borrow.Author.Needs.{needs}
 use mathlib.Core.Path.{sym, ap, _∙_}
-use Rattle.connection.specs.declared.answers.Outcome.{Outcome}
-use Rattle.connection.specs.Table.{streamsAfter}
+use Rattle.states.specs.declared.answers.Outcome.{Outcome}
+use Rattle.states.specs.Table.{streamsAfter}
 use Rattle.connection.specs.Record.{openOf, laid}
 use Rattle.connection.proofs.Lengths.{numbers}
 use Rattle.connection.proofs.Numbers.{laid-own}

@@ -6,15 +6,15 @@ use Prim.Native.Nat.{ℕ}
 use native.Mathlib.Omega.{arith}
 use lib.ListN.{length, take}
 use borrow.Author.Tests.{eq-eqb, ne-eqb}
-use Rattle.connection.specs.declared.requests.Asked.{Asked}
-use Rattle.connection.specs.Requests.{named}
-use Rattle.connection.specs.Table.{oneLess, isFull}
+use Rattle.states.specs.declared.request.Asked.{Asked}
+use Rattle.states.specs.Requests.{named}
+use Rattle.states.specs.Table.{oneLess, isFull}
 use Rattle.connection.specs.Record.{openOf, laid}
 use Rattle.connection.proofs.Lengths.{numbers}
 use Rattle.connection.proofs.Numbers.{open-length, laid-own}
 use Rattle.connection.proofs.Outcomes.{streams-by}
-use Rattle.connection.proofs.Rows.{run-begins}
-use Rattle.connection.proofs.Turns.{room-for-one}
+use Rattle.states.proofs.Rows.{run-begins}
+use Rattle.states.proofs.Turns.{room-for-one}
 use Rattle.connection.proofs.report.success_streams.Statement.{statement}
 use Rattle.connection.proofs.report.success_streams.Tie as tie
 

@@ -1,8 +1,8 @@
 -- `connection::report::summary_of` meets its contract: in each arm the match told the outcome. Assumes nothing.
 use borrow.Author.Needs.{needs}
 use mathlib.Core.Path.{sym, ap, _∙_}
-use Rattle.connection.specs.declared.answers.Outcome.{Outcome}
-use Rattle.connection.specs.Table.{summaryOf}
+use Rattle.states.specs.declared.answers.Outcome.{Outcome}
+use Rattle.states.specs.Table.{summaryOf}
 use Rattle.connection.proofs.report.summary_of.Statement.{statement}
 use Rattle.connection.proofs.report.summary_of.Tie as tie
 

@@ -1,6 +1,6 @@
 -- `connection::rules::are_alike` meets its contract: by the first. Assumes nothing.
 use borrow.Author.Needs.{needs}
-use Rattle.connection.proofs.Bools.{alike-yes}
+use Rattle.states.proofs.Bools.{alike-yes}
 use Rattle.connection.proofs.rules.are_alike.Statement.{statement}
 use Rattle.connection.proofs.rules.are_alike.Tie as tie
 

@@ -1,7 +1,7 @@
 -- `connection::rules::counts_hold` meets its contract: by the tests passed. Assumes nothing.
 use borrow.Author.Needs.{needs}
 use mathlib.Core.Path.{sym, _∙_}
-use Rattle.connection.proofs.Standing.{counts-high, counts-less, counts-defunct, counts-sum}
+use Rattle.states.proofs.Standing.{counts-high, counts-less, counts-defunct, counts-sum}
 use Rattle.connection.proofs.rules.counts_hold.Statement.{statement}
 use Rattle.connection.proofs.rules.counts_hold.Tie as tie
 

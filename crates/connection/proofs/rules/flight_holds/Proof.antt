@@ -4,10 +4,10 @@ use mathlib.Core.Path.{sym, ap, _∙_}
 use Prim.Native.Nat.{ℕ, _<_}
 use native.Mathlib.Omega.{arith}
 use borrow.Author.Tests.{not-true, not-false}
-use Rattle.connection.specs.Rules.{mayBeInFlight, firstInFlight}
+use Rattle.states.specs.Rules.{mayBeInFlight, firstInFlight}
 use Rattle.connection.specs.Record.{openOf, front}
 use Rattle.connection.proofs.Lengths.{slots}
-use Rattle.connection.proofs.Standing.{none-in-flight, one-in-flight}
+use Rattle.states.proofs.Standing.{none-in-flight, one-in-flight}
 use Rattle.connection.proofs.Waiting.{front-first}
 use Rattle.connection.proofs.rules.flight_holds.Statement.{statement}
 use Rattle.connection.proofs.rules.flight_holds.Tie as tie

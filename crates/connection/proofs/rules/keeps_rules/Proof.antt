@@ -4,11 +4,12 @@ use mathlib.Core.Path.{_≡_, refl, sym, _∙_}
 use mathlib.Core.Bool.{Bool, not, _&&_}
 use native.Mathlib.Omega.{arith}
 use borrow.Author.Tests.{not-true, not-false}
-use Rattle.connection.specs.Requests.{outOfRange, any}
-use Rattle.connection.specs.Rules.{numbersRule, stateRules}
+use Rattle.states.specs.Requests.{outOfRange, any}
+use Rattle.states.specs.Rules.{numbersRule, stateRules}
 use Rattle.connection.specs.Record.{joined, front, openOf, kept, keepsRules}
 use Rattle.connection.proofs.Lengths.{slots}
-use Rattle.connection.proofs.Standing.{too-many, too-open, within, rules-by, waiting-by}
+use Rattle.states.proofs.Standing.{rules-by, waiting-by}
+use Rattle.connection.proofs.Standing.{too-many, too-open, within}
 use Rattle.connection.proofs.Waiting.{front-length}
 use Rattle.connection.proofs.rules.keeps_rules.Statement.{statement}
 use Rattle.connection.proofs.rules.keeps_rules.Tie as tie

@@ -1,9 +1,9 @@
 -- `connection::rules::may_be_in_flight` meets its contract: by the state. Assumes nothing.
 use borrow.Author.Needs.{needs}
 use mathlib.Core.Path.{sym, ap, _∙_}
-use Rattle.connection.specs.Rules.{isHanded}
+use Rattle.states.specs.Rules.{isHanded}
 use Rattle.connection.specs.Record.{openOf}
-use Rattle.connection.proofs.Standing.{may-in, may-out}
+use Rattle.states.proofs.Standing.{may-in, may-out}
 use Rattle.connection.proofs.rules.may_be_in_flight.Statement.{statement}
 use Rattle.connection.proofs.rules.may_be_in_flight.Tie as tie
 

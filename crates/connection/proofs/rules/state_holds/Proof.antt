@@ -3,10 +3,10 @@ use borrow.Author.Needs.{needs}
 use mathlib.Core.Path.{refl, sym, ap, _∙_}
 use Prim.Native.Nat.{ℕ}
 use borrow.Author.Tests.{not-true, not-false}
-use Rattle.connection.specs.Rules.{countsRule}
+use Rattle.states.specs.Rules.{countsRule}
 use Rattle.connection.specs.Record.{joined, kept}
 use Rattle.connection.proofs.Lengths.{slots}
-use Rattle.connection.proofs.Standing.{state-by}
+use Rattle.states.proofs.Standing.{state-by}
 use Rattle.connection.proofs.Waiting.{front-length}
 use Rattle.connection.proofs.rules.state_holds.Statement.{statement}
 use Rattle.connection.proofs.rules.state_holds.Tie as tie

@@ -5,7 +5,7 @@ use Prim.Native.Nat.{ℕ, _-_}
 use lib.Dec.{eqb}
 use lib.ListN.{take, drop}
 use borrow.Author.Tests.{eq-eqb, ne-eqb}
-use Rattle.connection.specs.Table.{has}
+use Rattle.states.specs.Table.{has}
 use Rattle.connection.proofs.Lengths.{numbers}
 use Rattle.connection.proofs.Numbers.{found, passed, ended}
 use Rattle.connection.proofs.streams.is_open.Statement.{statement}

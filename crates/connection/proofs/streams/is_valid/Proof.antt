@@ -3,7 +3,7 @@ use borrow.Author.Needs.{needs}
 use mathlib.Core.Path.{_≡_, refl, sym, _∙_}
 use Prim.Native.Nat.{_-_}
 use lib.ListN.{take, drop}
-use Rattle.connection.specs.Rules.{distinctBelow}
+use Rattle.states.specs.Rules.{distinctBelow}
 use Rattle.connection.proofs.Lengths.{numbers}
 use Rattle.connection.proofs.Numbers.{too-high, again, right, all-right, next-high, next-right}
 use Rattle.connection.proofs.streams.is_valid.Statement.{statement}

@@ -3,8 +3,8 @@ use borrow.Author.Needs.{needs}
 use mathlib.Core.Path.{ap, _∙_}
 use Prim.Native.Nat.{_-_}
 use Rattle.connection.specs.declared.record.Streams.{Streams}
-use Rattle.connection.specs.declared.answers.Taken.the-variants.{Answered}
-use Rattle.connection.specs.Table.{numberAfter}
+use Rattle.states.specs.declared.answers.Taken.the-variants.{Answered}
+use Rattle.states.specs.Table.{numberAfter}
 use Rattle.connection.specs.Private.Parts.{answeredIn}
 use Rattle.connection.proofs.take.clear.Statement.{statement}
 use Rattle.connection.proofs.take.clear.Tie as tie

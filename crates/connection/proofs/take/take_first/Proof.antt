@@ -5,21 +5,21 @@ use mathlib.Core.Bool.{Bool, true, false, cond}
 use Prim.Native.Nat.{ℕ, _-_}
 use lib.ListN.{drop}
 use Rattle.refusal.specs.Answer.{result}
-use Rattle.connection.specs.declared.record.State.{State}
-use Rattle.connection.specs.declared.record.State.the-variants.{Ready, Failed, Interrupted}
-use Rattle.connection.specs.declared.record.Request.{Request}
+use Rattle.states.specs.declared.state.State.{State}
+use Rattle.states.specs.declared.state.State.the-variants.{Ready, Failed, Interrupted}
+use Rattle.states.specs.declared.request.Request.{Request}
 use Rattle.connection.specs.declared.record.Queue.{Queue}
 use Rattle.connection.specs.declared.record.Control.{Control}
 use Rattle.connection.specs.declared.record.Connection.{Connection}
-use Rattle.connection.specs.declared.answers.Failure.the-variants.{StreamsFull, StreamUnknown}
-use Rattle.connection.specs.declared.answers.Summary.{Summary}
-use Rattle.connection.specs.declared.answers.Summary.the-variants as S
-use Rattle.connection.specs.declared.answers.Taken.the-variants as A
-use Rattle.connection.specs.declared.turn.Turn.{Turn}
-use Rattle.connection.specs.declared.turn.Turn.the-variants as U
-use Rattle.connection.specs.Requests.{is, any}
+use Rattle.states.specs.declared.answers.Failure.the-variants.{StreamsFull, StreamUnknown}
+use Rattle.states.specs.declared.answers.Summary.{Summary}
+use Rattle.states.specs.declared.answers.Summary.the-variants as S
+use Rattle.states.specs.declared.answers.Taken.the-variants as A
+use Rattle.states.specs.declared.turn.Turn.{Turn}
+use Rattle.states.specs.declared.turn.Turn.the-variants as U
+use Rattle.states.specs.Requests.{is, any}
 use Rattle.bolt.specs.Requests.{RESET}
-use Rattle.connection.specs.Table.{Done, noneOpen, answer, handed, taken, takeFirst, turnOf}
+use Rattle.states.specs.Table.{Done, noneOpen, answer, handed, taken, takeFirst, turnOf}
 use Rattle.connection.specs.Record.{After, joined, front, openOf, kept, put, carried, toldTake}
 use Rattle.connection.specs.Private.Queue.{behind, firstIn}
 use Rattle.connection.specs.Private.Parts.{clearedIn, handedIn}

@@ -6,7 +6,7 @@ use borrow.Author.Tests.{not-true, not-false, le-leb, lt-leb}
 use Rattle.connection.specs.Record.{openOf}
 use Rattle.connection.proofs.Lengths.{numbers}
 use Rattle.connection.proofs.Numbers.{open-length}
-use Rattle.connection.proofs.Turns.{full-by}
+use Rattle.states.proofs.Turns.{full-by}
 use Rattle.connection.proofs.turn.is_full.Statement.{statement}
 use Rattle.connection.proofs.turn.is_full.Tie as tie
 

@@ -3,11 +3,11 @@ use borrow.Author.Needs.{needs}
 use mathlib.Core.Path.{sym, ap, _∙_}
 use Prim.Native.Nat.{ℕ}
 use lib.ListN.{take}
-use Rattle.connection.specs.declared.requests.Asked.{Asked}
-use Rattle.connection.specs.Requests.{isLatest, named}
-use Rattle.connection.specs.Table.{has}
+use Rattle.states.specs.declared.request.Asked.{Asked}
+use Rattle.states.specs.Requests.{isLatest, named}
+use Rattle.states.specs.Table.{has}
 use Rattle.connection.specs.Record.{openOf}
-use Rattle.connection.proofs.Turns.{names-by}
+use Rattle.states.proofs.Turns.{names-by}
 use Rattle.connection.proofs.turn.names_open.Statement.{statement}
 use Rattle.connection.proofs.turn.names_open.Tie as tie
 

@@ -3,15 +3,15 @@ use borrow.Author.Needs.{needs}
 use mathlib.Core.Path.{_≡_, refl, sym, _∙_}
 use mathlib.Core.Bool.{Bool, cond, not, _&&_}
 use borrow.Author.Tests.{eq-eqb, ne-eqb, not-true, not-false}
-use Rattle.connection.specs.declared.record.State.{State}
-use Rattle.connection.specs.declared.record.Request.{Request}
-use Rattle.connection.specs.declared.turn.Turn.the-variants.{Full, Unknown, Handed}
-use Rattle.connection.specs.Requests.{is, fetches}
+use Rattle.states.specs.declared.state.State.{State}
+use Rattle.states.specs.declared.request.Request.{Request}
+use Rattle.states.specs.declared.turn.Turn.the-variants.{Full, Unknown, Handed}
+use Rattle.states.specs.Requests.{is, fetches}
 use Rattle.bolt.specs.Requests.{RUN}
-use Rattle.connection.specs.Table.{Open, isFull, namesOpen, turnOf}
+use Rattle.states.specs.Table.{Open, isFull, namesOpen, turnOf}
 use Rattle.connection.specs.Record.{openOf}
-use Rattle.connection.proofs.Rows.{run-fetches}
-use Rattle.connection.proofs.Turns.{turn-by}
+use Rattle.states.proofs.Rows.{run-fetches}
+use Rattle.states.proofs.Turns.{turn-by}
 use Rattle.connection.proofs.turn.turn_of.Statement.{statement}
 use Rattle.connection.proofs.turn.turn_of.Tie as tie
 

@@ -4,7 +4,7 @@ use borrow.Author.Tests.{not-true, not-false}
 use borrow.Author.Needs.{needs}
 use Rattle.refusal.specs.Answer.{Answer, refused}
 use Rattle.connection.specs.declared.record.Connection.{Connection}
-use Rattle.connection.specs.Table.{Table, Done, unlessDefunct, arriveT}
+use Rattle.states.specs.Table.{Table, Done, unlessDefunct, arriveT}
 use Rattle.connection.specs.Record.{kept, called, arriveOf}
 use Rattle.meulhaton.specs.Image.{isRequest, requestOf, recordOf}
 use Rattle.meulhaton.specs.Replies.{afterCall}

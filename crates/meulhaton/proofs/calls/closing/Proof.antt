@@ -2,7 +2,7 @@
 use mathlib.Core.Path.{refl, sym, ap, _∙_}
 use borrow.Author.Tests.{not-true, not-false}
 use borrow.Author.Needs.{needs}
-use Rattle.connection.specs.Table.{closeT}
+use Rattle.states.specs.Table.{closeT}
 use Rattle.connection.specs.Record.{kept, closeOf}
 use Rattle.meulhaton.specs.Image.{recordOf}
 use Rattle.meulhaton.specs.Replies.{afterCall}

@@ -5,7 +5,7 @@ use borrow.Author.Tests.{not-true, not-false, eq-eqb, ne-eqb}
 use borrow.Author.Needs.{needs}
 use Rattle.refusal.specs.Answer.{refused}
 use Rattle.refusal.specs.Numbers.{numberOf}
-use Rattle.connection.specs.Table.{unlessDefunct}
+use Rattle.states.specs.Table.{unlessDefunct}
 use Rattle.connection.specs.Record.{kept}
 use Rattle.connection.proofs.Calls.{broken, refuse-defunct, go-on}
 use Rattle.meulhaton.specs.Replies.{afterCall}

@@ -4,7 +4,7 @@ use borrow.Author.Tests.{not-true, not-false, lt-leb, le-leb}
 use borrow.Author.Needs.{needs}
 use Rattle.refusal.specs.Answer.{Answer, refused}
 use Rattle.connection.specs.declared.record.Connection.{Connection}
-use Rattle.connection.specs.Table.{Table, Done, unlessDefunct, reportT}
+use Rattle.states.specs.Table.{Table, Done, unlessDefunct, reportT}
 use Rattle.connection.specs.Record.{kept, called, reportOf}
 use Rattle.meulhaton.specs.Image.{recordOf}
 use Rattle.meulhaton.specs.Replies.{afterCall}

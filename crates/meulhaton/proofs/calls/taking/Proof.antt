@@ -2,7 +2,7 @@
 use mathlib.Core.Path.{refl, sym, ap, _∙_}
 use borrow.Author.Tests.{not-true, not-false}
 use borrow.Author.Needs.{needs}
-use Rattle.connection.specs.Table.{takeT}
+use Rattle.states.specs.Table.{takeT}
 use Rattle.connection.specs.Record.{kept, takeOf}
 use Rattle.meulhaton.specs.Image.{recordOf}
 use Rattle.meulhaton.specs.Replies.{afterCall}

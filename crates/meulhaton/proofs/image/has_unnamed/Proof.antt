@@ -6,7 +6,7 @@ use lib.ListN.{length, take, drop}
 use mathlib.Core.Bool.{not}
 use borrow.Author.Needs.{needs}
 use Rattle.meulhaton.specs.Image.{unnamed, bare}
-use Rattle.connection.specs.Requests.{any}
+use Rattle.states.specs.Requests.{any}
 use Rattle.meulhaton.proofs.Arrays.{found, passed, ended}
 use Rattle.meulhaton.proofs.image.has_unnamed.Statement.{statement}
 use Rattle.meulhaton.proofs.image.has_unnamed.Tie as tie

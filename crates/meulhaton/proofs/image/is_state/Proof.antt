@@ -3,7 +3,7 @@ use mathlib.Core.Path.{ap, _∙_}
 use Prim.Native.Nat.{ℕ}
 use lib.Dec.{eqb}
 use borrow.Author.Needs.{needs}
-use Rattle.connection.specs.Requests.{rank}
+use Rattle.states.specs.Requests.{rank}
 use Rattle.meulhaton.proofs.image.is_state.Statement.{statement}
 use Rattle.meulhaton.proofs.image.is_state.Tie as tie
 

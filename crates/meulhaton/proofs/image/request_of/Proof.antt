@@ -2,7 +2,7 @@
 use mathlib.Core.Path.{_≡_, _∙_}
 use borrow.Author.Tests.{eq-eqb, ne-eqb}
 use Rattle.meulhaton.specs.Image.{requestOf}
-use Rattle.connection.specs.declared.record.Request.the-variants.{Discard, Pull}
+use Rattle.states.specs.declared.request.Request.the-variants.{Discard, Pull}
 use Rattle.meulhaton.proofs.Signed.{both}
 use Rattle.meulhaton.proofs.image.request_of.Statement.{statement}
 use Rattle.meulhaton.proofs.image.request_of.Tie as tie

@@ -9,7 +9,7 @@ use borrow.Author.Needs.{needs}
 use Rattle.meulhaton.specs.Image.{slotImage, bare}
 use Rattle.meulhaton.proofs.Arrays.{turn, filled}
 use Rattle.connection.specs.Record.{slot}
-use Rattle.connection.specs.declared.record.Request.the-variants.{Hello}
+use Rattle.states.specs.declared.request.Request.the-variants.{Hello}
 use Rattle.meulhaton.specs.declared.image.RequestImage.{RequestImage}
 use Rattle.meulhaton.proofs.image.slot_images.Statement.{statement}
 use Rattle.meulhaton.proofs.image.slot_images.Tie as tie

@@ -10,7 +10,7 @@ use Rattle.meulhaton.specs.Image.{slotOf, bare}
 use Rattle.meulhaton.proofs.Arrays.{turn, filled}
 use Rattle.connection.specs.Record.{slot}
 use Rattle.connection.specs.declared.record.Slot.{Slot}
-use Rattle.connection.specs.declared.record.Request.the-variants.{Hello}
+use Rattle.states.specs.declared.request.Request.the-variants.{Hello}
 use Rattle.meulhaton.proofs.image.slots_of.Statement.{statement}
 use Rattle.meulhaton.proofs.image.slots_of.Tie as tie
 

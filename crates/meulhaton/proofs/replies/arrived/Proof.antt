@@ -3,9 +3,9 @@ use mathlib.Core.Path.{sym, ap, _∙_}
 use borrow.Author.Needs.{needs}
 use Rattle.meulhaton.specs.Replies.{afterCall}
 use Rattle.meulhaton.proofs.Leaving.{gave}
-use Rattle.connection.specs.Table.{queued, closed}
-use Rattle.connection.specs.Answers.{toldArrival}
-use Rattle.connection.specs.declared.answers.Arrival.{Arrival}
+use Rattle.states.specs.Table.{queued, closed}
+use Rattle.states.specs.Answers.{toldArrival}
+use Rattle.states.specs.declared.answers.Arrival.{Arrival}
 use Rattle.meulhaton.proofs.replies.arrived.Statement.{statement}
 use Rattle.meulhaton.proofs.replies.arrived.Tie as tie
 

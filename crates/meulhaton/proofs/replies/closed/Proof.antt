@@ -3,9 +3,9 @@ use mathlib.Core.Path.{sym, ap, _∙_}
 use borrow.Author.Needs.{needs}
 use Rattle.meulhaton.specs.Replies.{afterCall}
 use Rattle.meulhaton.proofs.Leaving.{gave}
-use Rattle.connection.specs.Table.{closed}
-use Rattle.connection.specs.Answers.{toldClosing}
-use Rattle.connection.specs.declared.answers.Closing.{Closing}
+use Rattle.states.specs.Table.{closed}
+use Rattle.states.specs.Answers.{toldClosing}
+use Rattle.states.specs.declared.answers.Closing.{Closing}
 use Rattle.meulhaton.proofs.replies.closed.Statement.{statement}
 use Rattle.meulhaton.proofs.replies.closed.Tie as tie
 

@@ -2,8 +2,8 @@
 use mathlib.Core.Path.{sym, ap, _∙_}
 use borrow.Author.Needs.{needs}
 use Rattle.meulhaton.specs.Replies.{summaryImage}
-use Rattle.connection.specs.declared.answers.Failure.{Failure}
-use Rattle.connection.specs.declared.answers.Summary.the-variants as S
+use Rattle.states.specs.declared.answers.Failure.{Failure}
+use Rattle.states.specs.declared.answers.Summary.the-variants as S
 use Rattle.meulhaton.proofs.replies.failure_image.Statement.{statement}
 use Rattle.meulhaton.proofs.replies.failure_image.Tie as tie
 

@@ -3,9 +3,9 @@ use mathlib.Core.Path.{sym, ap, _∙_}
 use borrow.Author.Needs.{needs}
 use Rattle.meulhaton.specs.Replies.{afterCall}
 use Rattle.meulhaton.proofs.Leaving.{gave}
-use Rattle.connection.specs.Table.{answered}
-use Rattle.connection.specs.Answers.{toldReported}
-use Rattle.connection.specs.declared.answers.Reported.{Reported}
+use Rattle.states.specs.Table.{answered}
+use Rattle.states.specs.Answers.{toldReported}
+use Rattle.states.specs.declared.answers.Reported.{Reported}
 use Rattle.meulhaton.proofs.replies.reported.Statement.{statement}
 use Rattle.meulhaton.proofs.replies.reported.Tie as tie
 

@@ -3,9 +3,9 @@ use mathlib.Core.Path.{sym, ap, _∙_}
 use borrow.Author.Needs.{needs}
 use Rattle.meulhaton.specs.Replies.{afterCall}
 use Rattle.meulhaton.proofs.Leaving.{gave}
-use Rattle.connection.specs.Table.{closed, idle, handed, answered}
-use Rattle.connection.specs.Answers.{toldTaken}
-use Rattle.connection.specs.declared.answers.Taken.{Taken}
+use Rattle.states.specs.Table.{closed, idle, handed, answered}
+use Rattle.states.specs.Answers.{toldTaken}
+use Rattle.states.specs.declared.answers.Taken.{Taken}
 use Rattle.meulhaton.proofs.replies.taken.Statement.{statement}
 use Rattle.meulhaton.proofs.replies.taken.Tie as tie
 

@@ -8,7 +8,7 @@ use Rattle.meulhaton.specs.Summaries.{summaryOf, isSummary, summaryForm}
 use Rattle.refusal.specs.Answer.{Answer, result, refused, left}
 use Rattle.packing.specs.Packing.{fitted, leaves, telling}
 use Rattle.summaries.specs.Summaries.{packSummary}
-use Rattle.connection.specs.declared.answers.Summary.{Summary}
+use Rattle.states.specs.declared.answers.Summary.{Summary}
 use Rattle.meulhaton.specs.Wire.{outputOf}
 use Rattle.meulhaton.proofs.Choices.{chosen, other}
 use Rattle.meulhaton.proofs.summary.meulhaton_pack_summary.Statement.{statement}

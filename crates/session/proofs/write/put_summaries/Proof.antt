@@ -2,7 +2,7 @@
 use Prim.Native.Nat.{_-_}
 use native.Mathlib.Omega.{arith}
 use borrow.Author.Needs.{needs}
-use Rattle.connection.specs.declared.answers.Summary.the-variants.{Ignored}
+use Rattle.states.specs.declared.answers.Summary.the-variants.{Ignored}
 use Rattle.session.proofs.Writing.{Puts, puts-none, puts-fits, puts-next, puts-done}
 use Rattle.session.proofs.write.put_summaries.Statement.{statement}
 use Rattle.session.proofs.write.put_summaries.Tie as tie

@@ -3,7 +3,7 @@ use Prim.Native.Nat.{_-_}
 use native.Mathlib.Omega.{arith}
 use borrow.Author.Needs.{needs}
 use lib.ListN.{getD}
-use Rattle.connection.specs.declared.answers.Summary.the-variants.{Ignored}
+use Rattle.states.specs.declared.answers.Summary.the-variants.{Ignored}
 use Rattle.session.proofs.Writing.{Counts, counts-none, counts-next, counts-done, summary-short}
 use Rattle.session.proofs.write.summaries_length.Statement.{statement}
 use Rattle.session.proofs.write.summaries_length.Tie as tie

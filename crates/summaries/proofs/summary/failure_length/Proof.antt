@@ -1,7 +1,7 @@
 -- `summaries::summary::failure_length` meets its contract. Assumes nothing.
 use mathlib.Core.Path.{ap}
 use lib.ListN.{length}
-use Rattle.connection.specs.declared.answers.Failure.the-variants as F
+use Rattle.states.specs.declared.answers.Failure.the-variants as F
 use Rattle.summaries.proofs.Summaries.{failure-form}
 use borrow.Author.Needs.{needs}
 use Rattle.summaries.proofs.summary.failure_length.Statement.{statement}

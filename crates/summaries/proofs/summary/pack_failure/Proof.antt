@@ -1,5 +1,5 @@
 -- `summaries::summary::pack_failure` meets its contract. Assumes nothing.
-use Rattle.connection.specs.declared.answers.Failure.the-variants as F
+use Rattle.states.specs.declared.answers.Failure.the-variants as F
 use Rattle.summaries.proofs.Summaries.{same-form, failure-form}
 use borrow.Author.Needs.{needs}
 use Rattle.summaries.proofs.summary.pack_failure.Statement.{statement}

@@ -3,7 +3,7 @@ use mathlib.Core.Path.{refl}
 use native.Mathlib.Omega.{arith}
 use Rattle.refusal.specs.Answer.{result}
 use Rattle.packing.proofs.Packing.{no-room}
-use Rattle.connection.specs.declared.answers.Summary.the-variants as S
+use Rattle.states.specs.declared.answers.Summary.the-variants as S
 use Rattle.summaries.specs.Summaries.{packSummary}
 use Rattle.summaries.proofs.Summaries.{stream-number, stream-room, stream-packed}
 use borrow.Author.Needs.{needs}

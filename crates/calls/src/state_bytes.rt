@@ -1,5 +1,5 @@
 // States as bytes.
-use connection::record::State;
+use states::state::State;
 
 // The byte of the last state; greater ones name none.
 pub const LAST: u8 = 0x07;
