@@ -191,9 +191,9 @@ enum {
 /* A request as the connection is told of it. n and qid are of DISCARD and PULL: n records, or -1 for all; of the stream qid, or -1
  * for the latest. */
 typedef struct {
-    uint8_t kind;
     int64_t n;
     int64_t qid;
+    uint8_t kind;
 } meulhaton_request;
 
 /* A String that may be absent: its content is `size` bytes of the message from `start` on. */
@@ -271,8 +271,8 @@ enum {
 
 /* `value` is 0 but where a kind above says what it is. */
 typedef struct {
-    uint8_t kind;
     uint32_t value;
+    uint8_t kind;
 } meulhaton_summary;
 
 /* Packs a summary, as a reply has it, from the offset `at` of out on. 60 bytes hold every summary.
@@ -291,19 +291,29 @@ enum {
     MEULHATON_DEFUNCT = 7
 };
 
-/* The record of one connection, which the caller owns: make it by meulhaton_fresh and change it by the calls alone. Each call checks
- * it like any record, and refuses with 24 one that breaks a standing rule or whose state, in_flight or waiting requests are numbers
- * that name nothing. Places past the counts never matter. */
+/* All of a record but its arrays. */
 typedef struct {
     uint8_t state;
     uint8_t in_flight;               /* 1 while the first request waits for the engine's report, else 0 */
-    uint64_t waiting;                /* how many of `requests` wait: at most 32 */
-    uint64_t opened;                 /* how many of `streams` are open: at most 8 */
+    size_t first;                    /* the place of the first request that waits: below 32, also where none waits */
+    size_t waiting;                  /* how many wait: at most 32 */
+    size_t opened;                   /* how many of `streams`, from the front on, are open: at most 8 */
     uint64_t next;                   /* the number of the next stream of the transaction */
     uint64_t accepted;               /* requests accepted */
     uint64_t sent;                   /* summaries handed back */
-    uint64_t streams[8];
-    meulhaton_request requests[32];
+} meulhaton_control;
+
+/* The record of one connection, which the caller owns: make it by meulhaton_fresh, which is all zeros, and change it by the calls alone.
+ * The requests that wait stand around a ring, the one behind i others in place (first + i) % 32 of the last three arrays: meulhaton_arrive
+ * writes the place behind the last of them, no other call writes any, and with each summary `first` moves on by one.
+ * Each call checks it like any record, and refuses with 24 one that breaks a standing rule: among them that state, in_flight and the kinds
+ * of the requests that wait name something. What the places hold in which no request waits, and no stream is open, never matters. */
+typedef struct {
+    meulhaton_control control;
+    uint64_t streams[8];             /* numbers of open streams */
+    uint8_t kinds[32];
+    int64_t counts[32];              /* n of DISCARD and PULL, else 0 */
+    int64_t qids[32];                /* qid of DISCARD and PULL, else 0 */
 } meulhaton_connection;
 
 enum {
@@ -321,12 +331,12 @@ enum {
  * MEULHATON_HANDED: for the engine, which is to report on it: `request`, and its `number` from 1.
  * MEULHATON_ANSWERED: for the client: `summary`, of the request with this `number`. Pack it, write it in chunks and send it. */
 typedef struct {
-    uint8_t refusal;
-    uint8_t said;
-    meulhaton_summary summary;
     uint64_t place;
     uint64_t number;
     meulhaton_request request;
+    meulhaton_summary summary;
+    uint8_t refusal;
+    uint8_t said;
 } meulhaton_reply;
 
 enum { MEULHATON_OUTCOME_SUCCESS = 0, MEULHATON_OUTCOME_MORE = 1, MEULHATON_OUTCOME_FAILURE = 2 };

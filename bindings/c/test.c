@@ -95,7 +95,7 @@ static void values(void) {
     HOLDS(meulhaton_pack_structure(0x70, 16, out, sizeof out, 0).refusal == MEULHATON_TOO_LONG);
     HOLDS(is(out, "\xB1\x70\xA1\x83qid\x05", 8));
     HOLDS(meulhaton_pack_boolean(true, out, sizeof out, 7).end == 8 && out[7] == 0xC3);
-    meulhaton_summary summary = {MEULHATON_SUCCESS_QID, 5};
+    meulhaton_summary summary = {.kind = MEULHATON_SUCCESS_QID, .value = 5};
     HOLDS(meulhaton_pack_summary(summary, out, sizeof out, 0).end == 8 && is(out, "\xB1\x70\xA1\x83qid\x05", 8));
     summary.kind = 8;
     HOLDS(meulhaton_pack_summary(summary, out, sizeof out, 0).refusal == MEULHATON_INVALID_RECORD);
@@ -136,14 +136,20 @@ static void wrong_requests(void) {
     REFUSED("\xB1\x11\xA1\x8Atx_timeout\xFF", MEULHATON_OUT_OF_RANGE, 14);
 }
 
+/* What the library takes a record's bytes for. */
+_Static_assert(sizeof(meulhaton_control) == 56 && sizeof(meulhaton_connection) == 664, "sizes");
+_Static_assert(offsetof(meulhaton_control, in_flight) == 1 && offsetof(meulhaton_control, first) == 8, "control");
+_Static_assert(offsetof(meulhaton_control, waiting) == 16 && offsetof(meulhaton_control, opened) == 24, "control");
+_Static_assert(offsetof(meulhaton_control, next) == 32 && offsetof(meulhaton_control, sent) == 48, "control");
+_Static_assert(offsetof(meulhaton_connection, streams) == 56 && offsetof(meulhaton_connection, kinds) == 120, "arrays");
+_Static_assert(offsetof(meulhaton_connection, counts) == 152 && offsetof(meulhaton_connection, qids) == 408, "arrays");
+
 /* Padding aside. */
 static bool same(const meulhaton_connection *a, const meulhaton_connection *b) {
-    for (size_t i = 0; i < 32; i++) {
-        const meulhaton_request *p = &a->requests[i], *q = &b->requests[i];
-        if (p->kind != q->kind || p->n != q->n || p->qid != q->qid) return false;
-    }
-    return a->state == b->state && a->in_flight == b->in_flight && a->waiting == b->waiting && a->opened == b->opened && a->next == b->next &&
-           a->accepted == b->accepted && a->sent == b->sent && memcmp(a->streams, b->streams, sizeof a->streams) == 0;
+    const meulhaton_control *p = &a->control, *q = &b->control;
+    return p->state == q->state && p->in_flight == q->in_flight && p->first == q->first && p->waiting == q->waiting &&
+           p->opened == q->opened && p->next == q->next && p->accepted == q->accepted && p->sent == q->sent &&
+           memcmp(a->streams, b->streams, sizeof *a - offsetof(meulhaton_connection, streams)) == 0;
 }
 
 /* Kinds and outcomes that name nothing: they are refused with these numbers, and nothing changes. */
@@ -152,7 +158,7 @@ static void unnamed(meulhaton_connection *connection, uint8_t kind, uint8_t outc
     for (int number = 0; number < 256; number++) {
         bool named = number == MEULHATON_HELLO || number == MEULHATON_GOODBYE || (number >= MEULHATON_RESET && number <= MEULHATON_ROLLBACK) ||
                      number == MEULHATON_DISCARD || number == MEULHATON_PULL;
-        if (!named) HOLDS(meulhaton_arrive(connection, (meulhaton_request){(uint8_t)number, 1, -1}).refusal == kind);
+        if (!named) HOLDS(meulhaton_arrive(connection, (meulhaton_request){.kind = (uint8_t)number, .n = 1, .qid = -1}).refusal == kind);
         if (number > 2) HOLDS(meulhaton_report(connection, (meulhaton_outcome){(uint8_t)number}).refusal == outcome);
     }
     HOLDS(same(connection, &before));
@@ -160,40 +166,40 @@ static void unnamed(meulhaton_connection *connection, uint8_t kind, uint8_t outc
 
 static void calls(void) {
     meulhaton_connection connection = meulhaton_fresh(), before;
-    HOLDS(connection.state == MEULHATON_CONNECTED && connection.waiting == 0 && connection.next == 0);
-    HOLDS(meulhaton_arrive(&connection, (meulhaton_request){MEULHATON_HELLO, 0, 0}).said == MEULHATON_QUEUED);
+    HOLDS(connection.control.state == MEULHATON_CONNECTED && same(&connection, &(meulhaton_connection){0}));
+    HOLDS(meulhaton_arrive(&connection, (meulhaton_request){.kind = MEULHATON_HELLO, .n = 0, .qid = 0}).said == MEULHATON_QUEUED);
     meulhaton_reply reply = meulhaton_take(&connection);
     HOLDS(reply.said == MEULHATON_HANDED && reply.number == 1 && reply.request.kind == MEULHATON_HELLO);
     HOLDS(meulhaton_take(&connection).said == MEULHATON_IDLE);
     before = connection;
     HOLDS(meulhaton_report(&connection, (meulhaton_outcome){MEULHATON_OUTCOME_MORE}).refusal == MEULHATON_UNEXPECTED_REPORT);
     HOLDS(meulhaton_report(&connection, (meulhaton_outcome){3}).refusal == MEULHATON_UNEXPECTED_REPORT);
-    reply = meulhaton_arrive(&connection, (meulhaton_request){0, 1, -1});
+    reply = meulhaton_arrive(&connection, (meulhaton_request){.kind = 0, .n = 1, .qid = -1});
     HOLDS(reply.refusal == MEULHATON_OUT_OF_RANGE && reply.place == 0 && reply.said == 0);
-    HOLDS(meulhaton_arrive(&connection, (meulhaton_request){MEULHATON_PULL, 0, -1}).refusal == MEULHATON_OUT_OF_RANGE);
+    HOLDS(meulhaton_arrive(&connection, (meulhaton_request){.kind = MEULHATON_PULL, .n = 0, .qid = -1}).refusal == MEULHATON_OUT_OF_RANGE);
     HOLDS(same(&connection, &before));
     reply = meulhaton_report(&connection, (meulhaton_outcome){MEULHATON_OUTCOME_SUCCESS});
     HOLDS(reply.said == MEULHATON_ANSWERED && reply.number == 1 && reply.summary.kind == MEULHATON_SUCCESS);
-    HOLDS(connection.state == MEULHATON_READY && connection.accepted == 1 && connection.sent == 1);
+    HOLDS(connection.control.state == MEULHATON_READY && connection.control.accepted == 1 && connection.control.sent == 1);
     before = connection;
-    connection.state = 8;
+    connection.control.state = 8;
     HOLDS(meulhaton_take(&connection).refusal == MEULHATON_INVALID_RECORD);
     unnamed(&connection, MEULHATON_INVALID_RECORD, MEULHATON_INVALID_RECORD);
     connection = before;
-    connection.accepted = 7;
+    connection.control.accepted = 7;
     unnamed(&connection, MEULHATON_INVALID_RECORD, MEULHATON_INVALID_RECORD);
     connection = before;
     unnamed(&connection, MEULHATON_OUT_OF_RANGE, MEULHATON_UNEXPECTED_REPORT);
-    HOLDS(meulhaton_arrive(&connection, (meulhaton_request){MEULHATON_RUN, 5, -7}).said == MEULHATON_QUEUED);
-    HOLDS(connection.requests[0].kind == MEULHATON_RUN && connection.requests[0].n == 0 && connection.requests[0].qid == 0);
-    HOLDS(meulhaton_close(&connection).said == MEULHATON_CLOSED && connection.state == MEULHATON_DEFUNCT);
+    HOLDS(meulhaton_arrive(&connection, (meulhaton_request){.kind = MEULHATON_RUN, .n = 5, .qid = -7}).said == MEULHATON_QUEUED);
+    HOLDS(connection.control.first == 1 && connection.kinds[1] == MEULHATON_RUN && connection.counts[1] == 0 && connection.qids[1] == 0);
+    HOLDS(meulhaton_close(&connection).said == MEULHATON_CLOSED && connection.control.state == MEULHATON_DEFUNCT);
     HOLDS(meulhaton_close(&connection).refusal == MEULHATON_CONNECTION_DEFUNCT);
     unnamed(&connection, MEULHATON_CONNECTION_DEFUNCT, MEULHATON_CONNECTION_DEFUNCT);
 }
 
 /* A request that comes, is handed over and has this outcome. */
 static meulhaton_reply served(meulhaton_connection *connection, uint8_t kind, uint8_t outcome) {
-    HOLDS(meulhaton_arrive(connection, (meulhaton_request){kind, 0, 0}).said == MEULHATON_QUEUED);
+    HOLDS(meulhaton_arrive(connection, (meulhaton_request){.kind = kind, .n = 0, .qid = 0}).said == MEULHATON_QUEUED);
     HOLDS(meulhaton_take(connection).said == MEULHATON_HANDED);
     return meulhaton_report(connection, (meulhaton_outcome){outcome});
 }
@@ -203,7 +209,7 @@ static void failed_begin(void) {
     meulhaton_connection connection = meulhaton_fresh();
     served(&connection, MEULHATON_HELLO, MEULHATON_OUTCOME_SUCCESS);
     const uint8_t sent[] = {MEULHATON_BEGIN, MEULHATON_RUN, MEULHATON_PULL, MEULHATON_COMMIT};
-    for (size_t i = 0; i < sizeof sent; i++) HOLDS(meulhaton_arrive(&connection, (meulhaton_request){sent[i], 1, -1}).said == MEULHATON_QUEUED);
+    for (size_t i = 0; i < sizeof sent; i++) HOLDS(meulhaton_arrive(&connection, (meulhaton_request){.kind = sent[i], .n = 1, .qid = -1}).said == MEULHATON_QUEUED);
     HOLDS(meulhaton_take(&connection).request.kind == MEULHATON_BEGIN);
     meulhaton_reply reply = meulhaton_report(&connection, (meulhaton_outcome){MEULHATON_OUTCOME_FAILURE});
     HOLDS(reply.said == MEULHATON_ANSWERED && reply.number == 2 && reply.summary.kind == MEULHATON_FAILURE_ENGINE);
@@ -211,10 +217,95 @@ static void failed_begin(void) {
         reply = meulhaton_take(&connection);
         HOLDS(reply.said == MEULHATON_ANSWERED && reply.number == number && reply.summary.kind == MEULHATON_IGNORED);
     }
-    HOLDS(meulhaton_take(&connection).said == MEULHATON_IDLE && connection.state == MEULHATON_FAILED);
-    HOLDS(meulhaton_arrive(&connection, (meulhaton_request){MEULHATON_RESET, 0, 0}).said == MEULHATON_QUEUED);
-    HOLDS(meulhaton_take(&connection).summary.kind == MEULHATON_SUCCESS && connection.state == MEULHATON_READY);
-    HOLDS(served(&connection, MEULHATON_BEGIN, MEULHATON_OUTCOME_SUCCESS).number == 7 && connection.state == MEULHATON_TX_READY);
+    HOLDS(meulhaton_take(&connection).said == MEULHATON_IDLE && connection.control.state == MEULHATON_FAILED);
+    HOLDS(meulhaton_arrive(&connection, (meulhaton_request){.kind = MEULHATON_RESET, .n = 0, .qid = 0}).said == MEULHATON_QUEUED);
+    HOLDS(meulhaton_take(&connection).summary.kind == MEULHATON_SUCCESS && connection.control.state == MEULHATON_READY);
+    HOLDS(served(&connection, MEULHATON_BEGIN, MEULHATON_OUTCOME_SUCCESS).number == 7 && connection.control.state == MEULHATON_TX_READY);
+}
+
+/* Every call is refused with 24, and nothing changes. */
+static void broken(meulhaton_connection connection) {
+    meulhaton_connection before = connection;
+    HOLDS(meulhaton_arrive(&connection, (meulhaton_request){.kind = MEULHATON_RUN, .n = 0, .qid = 0}).refusal == MEULHATON_INVALID_RECORD);
+    HOLDS(meulhaton_take(&connection).refusal == MEULHATON_INVALID_RECORD);
+    HOLDS(meulhaton_report(&connection, (meulhaton_outcome){MEULHATON_OUTCOME_SUCCESS}).refusal == MEULHATON_INVALID_RECORD);
+    HOLDS(meulhaton_close(&connection).refusal == MEULHATON_INVALID_RECORD);
+    HOLDS(same(&connection, &before));
+}
+
+/* The n of the RUN or PULL that comes in its turn. */
+static int64_t n_of(uint64_t turn) {
+    return turn % 2 == 0 ? 0 : (int64_t)turn;
+}
+
+/* 32 wait, all are served, and 32 wait again: from each first place on, with any bytes in the places in which none waits. */
+static void ring(void) {
+    for (size_t first = 0; first < 32; first++) {
+        meulhaton_connection connection = meulhaton_fresh(), before;
+        connection.control.first = (first + 31) % 32;
+        memset(connection.kinds, first % 2 == 0 ? MEULHATON_RESET : 0xAA, sizeof connection.kinds);
+        memset(connection.counts, 0xAA, sizeof connection.counts);
+        served(&connection, MEULHATON_HELLO, MEULHATON_OUTCOME_SUCCESS);
+        for (uint64_t turn = 0, arrived = 0; turn < 96; turn++) {
+            for (; turn % 32 == 0 && arrived < turn + 32; arrived++) {
+                meulhaton_request request = {.kind = arrived % 2 == 0 ? MEULHATON_RUN : MEULHATON_PULL, .n = n_of(arrived), .qid = -1};
+                size_t place = (first + arrived) % 32;
+                before = connection;
+                HOLDS(meulhaton_arrive(&connection, request).said == MEULHATON_QUEUED);
+                HOLDS(connection.kinds[place] == request.kind && connection.counts[place] == request.n);
+                HOLDS(connection.qids[place] == (request.kind == MEULHATON_PULL ? -1 : 0));
+                before.kinds[place] = connection.kinds[place];
+                before.counts[place] = connection.counts[place];
+                before.qids[place] = connection.qids[place];
+                before.control = connection.control;
+                HOLDS(same(&connection, &before));
+            }
+            if (turn % 32 == 0) HOLDS(meulhaton_arrive(&connection, (meulhaton_request){.kind = MEULHATON_RUN, .n = 0, .qid = 0}).refusal == MEULHATON_QUEUE_FULL);
+            before = connection;
+            meulhaton_reply reply = meulhaton_take(&connection);
+            HOLDS(reply.said == MEULHATON_HANDED && reply.number == turn + 2 && reply.request.n == n_of(turn));
+            reply = meulhaton_report(&connection, (meulhaton_outcome){MEULHATON_OUTCOME_SUCCESS});
+            HOLDS(reply.said == MEULHATON_ANSWERED && reply.number == turn + 2);
+            HOLDS(connection.control.first == (first + turn + 1) % 32);
+            before.control = connection.control;
+            HOLDS(same(&connection, &before));
+        }
+        HOLDS(meulhaton_take(&connection).said == MEULHATON_IDLE);
+        HOLDS(meulhaton_close(&connection).said == MEULHATON_CLOSED && connection.control.first == first);
+    }
+}
+
+/* The ring's bounds are rules in every state, and so is that what waits is a request. */
+static void bounds(void) {
+    meulhaton_connection good = meulhaton_fresh(), bad;
+    for (int closed = 0; closed < 2; closed++) {
+        const size_t wrong[] = {33, 64, SIZE_MAX - 31, SIZE_MAX};
+        for (size_t i = 0; i < sizeof wrong / sizeof *wrong; i++) {
+            bad = good;
+            bad.control.first = wrong[i] - 1;
+            broken(bad);
+            bad = good;
+            bad.control.waiting = wrong[i];
+            broken(bad);
+        }
+        bad = good;
+        bad.control.in_flight = 2;
+        broken(bad);
+        bad = good;
+        bad.control.state = 8;
+        broken(bad);
+        HOLDS(closed || meulhaton_close(&good).said == MEULHATON_CLOSED);
+    }
+    good = meulhaton_fresh();
+    good.control.first = 31;
+    served(&good, MEULHATON_HELLO, MEULHATON_OUTCOME_SUCCESS);
+    for (size_t i = 0; i < 3; i++) HOLDS(meulhaton_arrive(&good, (meulhaton_request){.kind = MEULHATON_RUN, .n = 0, .qid = 0}).said == MEULHATON_QUEUED);
+    for (size_t place = 0; place < 32; place++) {
+        bad = good;
+        bad.kinds[place] = 0x14;
+        if (place < 3) broken(bad);
+        else HOLDS(meulhaton_take(&bad).said == MEULHATON_HANDED && bad.kinds[place] == 0x14);
+    }
 }
 
 int main(void) {
@@ -225,5 +316,7 @@ int main(void) {
     wrong_requests();
     calls();
     failed_begin();
+    ring();
+    bounds();
     return failed;
 }

@@ -1,6 +1,6 @@
 //! The connection record, and the four calls on it.
 use crate::raw;
-use crate::raw::{Image, RequestImage, SummaryImage};
+use crate::raw::{Control, Record, RequestImage, SummaryImage};
 use crate::refusal::{unless_refused, Refusal};
 use crate::values::packed;
 
@@ -47,9 +47,10 @@ impl Request {
         }
     }
 
-    pub(crate) fn from_image(image: RequestImage) -> Request {
+    /// `None` where the kind names no request.
+    pub(crate) fn from_image(image: RequestImage) -> Option<Request> {
         let (n, qid) = (image.n, image.qid);
-        match image.kind {
+        Some(match image.kind {
             0x01 => Request::Hello,
             0x02 => Request::Goodbye,
             0x0F => Request::Reset,
@@ -59,8 +60,13 @@ impl Request {
             0x13 => Request::Rollback,
             0x2F => Request::Discard { n, qid },
             0x3F => Request::Pull { n, qid },
-            _ => unreachable!("the library names known requests only"),
-        }
+            _ => return None,
+        })
+    }
+
+    /// A request that the library answers with.
+    pub(crate) fn named(image: RequestImage) -> Request {
+        Request::from_image(image).expect("the library names known requests only")
     }
 }
 
@@ -156,30 +162,30 @@ pub struct Answered {
 /// The record of one connection. A refused call leaves it bit for bit as it was.
 #[derive(Clone, Debug, PartialEq, Eq)]
 pub struct Connection {
-    image: Image,
+    record: Record,
 }
 
 impl Connection {
     /// A fresh record: CONNECTED, with nothing counted, waiting or open.
     pub fn fresh() -> Connection {
         // SAFETY: nothing is lent.
-        Connection { image: unsafe { raw::meulhaton_fresh() } }
+        Connection { record: unsafe { raw::meulhaton_fresh() } }
     }
 
-    /// A record of any numbers. The calls refuse with 24 one that breaks a standing rule, or whose state, in_flight or waiting requests
-    /// are numbers that name nothing.
-    pub fn from_image(image: Image) -> Connection {
-        Connection { image }
+    /// A record of any numbers. The calls refuse with 24 one that breaks a standing rule, among them that its state, in_flight and waiting
+    /// requests name something.
+    pub fn from_record(record: Record) -> Connection {
+        Connection { record }
     }
 
     /// The record's numbers.
-    pub fn image(&self) -> &Image {
-        &self.image
+    pub fn record(&self) -> &Record {
+        &self.record
     }
 
-    /// Where the connection stands; `None` where the number names no state, as only `from_image` can make it.
+    /// Where the connection stands; `None` where the number names no state, as only `from_record` can make it.
     pub fn state(&self) -> Option<State> {
-        Some(match self.image.state {
+        Some(match self.record.control.state {
             0 => State::Connected,
             1 => State::Ready,
             2 => State::Streaming,
@@ -193,8 +199,16 @@ impl Connection {
     }
 
     /// How many requests wait, the one in flight included.
-    pub fn waiting(&self) -> u64 {
-        self.image.waiting
+    pub fn waiting(&self) -> usize {
+        self.record.control.waiting
+    }
+
+    /// The requests that wait, in their order, the one in flight first; `None` for a number that names no request, as only `from_record` can
+    /// make it.
+    pub fn requests(&self) -> impl Iterator<Item = Option<Request>> + '_ {
+        let Record { control: Control { first, waiting, .. }, kinds, counts, qids, .. } = &self.record;
+        let places = (0..*waiting.min(&32)).map(|behind| first.wrapping_add(behind) % 32);
+        places.map(|place| Request::from_image(RequestImage { kind: kinds[place], n: counts[place], qid: qids[place] }))
     }
 
     /// A request has come. A RESET interrupts what is going on at once. In CONNECTED, until HELLO was reported a success, it closes the
@@ -204,7 +218,7 @@ impl Connection {
     /// range, 20 where 4,294,967,295 requests were accepted, and 17 where 32 wait: then take first, and do not close.
     pub fn arrive(&mut self, request: Request) -> Result<Arrival, Refusal> {
         // SAFETY: the pointer is that of one whole record, lent to this call alone.
-        let reply = unsafe { raw::meulhaton_arrive(&mut self.image, request.to_image()) };
+        let reply = unsafe { raw::meulhaton_arrive(&mut self.record, request.to_image()) };
         unless_refused(reply.refusal, reply.place, || match reply.said {
             1 => Arrival::Queued,
             2 => Arrival::Closed,
@@ -218,11 +232,11 @@ impl Connection {
     /// Refuses with 24, then with 18.
     pub fn take(&mut self) -> Result<Taken, Refusal> {
         // SAFETY: the pointer is that of one whole record, lent to this call alone.
-        let reply = unsafe { raw::meulhaton_take(&mut self.image) };
+        let reply = unsafe { raw::meulhaton_take(&mut self.record) };
         unless_refused(reply.refusal, reply.place, || match reply.said {
             2 => Taken::Closed,
             3 => Taken::Idle,
-            4 => Taken::Handed { request: Request::from_image(reply.request), number: reply.number },
+            4 => Taken::Handed { request: Request::named(reply.request), number: reply.number },
             5 => Taken::Answered(answered(reply)),
             _ => unreachable!("take answers idle, closed, handed or answered"),
         })
@@ -235,7 +249,7 @@ impl Connection {
     pub fn report(&mut self, outcome: Outcome) -> Result<Answered, Refusal> {
         let outcome = raw::OutcomeImage { number: outcome as u8 };
         // SAFETY: the pointer is that of one whole record, lent to this call alone.
-        let reply = unsafe { raw::meulhaton_report(&mut self.image, outcome) };
+        let reply = unsafe { raw::meulhaton_report(&mut self.record, outcome) };
         unless_refused(reply.refusal, reply.place, || answered(reply))
     }
 
@@ -244,7 +258,7 @@ impl Connection {
     /// Refuses with 24, then with 18.
     pub fn close(&mut self) -> Result<(), Refusal> {
         // SAFETY: the pointer is that of one whole record, lent to this call alone.
-        let reply = unsafe { raw::meulhaton_close(&mut self.image) };
+        let reply = unsafe { raw::meulhaton_close(&mut self.record) };
         unless_refused(reply.refusal, reply.place, || ())
     }
 }

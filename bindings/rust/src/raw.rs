@@ -58,9 +58,9 @@ pub struct ValueRead {
 #[repr(C)]
 #[derive(Clone, Copy, Debug, Default, PartialEq, Eq)]
 pub struct RequestImage {
-    pub kind: u8,
     pub n: i64,
     pub qid: i64,
+    pub kind: u8,
 }
 
 #[repr(C)]
@@ -129,19 +129,43 @@ pub struct RequestRead {
     pub fields: FieldsImage,
 }
 
-/// A connection record as numbers. Any numbers may stand in it: each call checks it and refuses with 24 one that is no good record.
+/// All of a connection record but its arrays.
 #[repr(C)]
-#[derive(Clone, Debug, PartialEq, Eq)]
-pub struct Image {
+#[derive(Clone, Copy, Debug, PartialEq, Eq)]
+pub struct Control {
     pub state: u8,
+    /// 1 while the first request waits for the engine's report, else 0.
     pub in_flight: u8,
-    pub waiting: u64,
-    pub opened: u64,
+    /// The place of the first request that waits: below 32, also where none waits.
+    pub first: usize,
+    /// How many wait: at most 32.
+    pub waiting: usize,
+    /// How many of `streams`, from the front on, are open: at most 8.
+    pub opened: usize,
+    /// The number of the next stream of the transaction.
     pub next: u64,
+    /// Requests accepted.
     pub accepted: u64,
+    /// Summaries handed back.
     pub sent: u64,
+}
+
+/// A connection record, all zeros when it is fresh. The requests that wait stand around a ring, the one behind i others in place
+/// (first + i) % 32 of the last three arrays: `meulhaton_arrive` writes the place behind the last of them, no other call writes any, and with
+/// each summary `first` moves on by one.
+///
+/// Any numbers may stand in it: each call checks it and refuses with 24 one that breaks a standing rule, among them that state, in_flight and
+/// the kinds of the requests that wait name something. What the places hold in which no request waits, and no stream is open, never matters.
+#[repr(C)]
+#[derive(Clone, Copy, Debug, PartialEq, Eq)]
+pub struct Record {
+    pub control: Control,
     pub streams: [u64; 8],
-    pub requests: [RequestImage; 32],
+    pub kinds: [u8; 32],
+    /// n of DISCARD and PULL, else 0.
+    pub counts: [i64; 32],
+    /// qid of DISCARD and PULL, else 0.
+    pub qids: [i64; 32],
 }
 
 /// How the engine ended a request: success 0, success with more 1, failure 2. `meulhaton_report` refuses any other number with 19, after 24
@@ -155,19 +179,19 @@ pub struct OutcomeImage {
 #[repr(C)]
 #[derive(Clone, Copy, Debug, PartialEq, Eq)]
 pub struct SummaryImage {
-    pub kind: u8,
     pub value: u32,
+    pub kind: u8,
 }
 
 #[repr(C)]
 #[derive(Clone, Copy, Debug, PartialEq, Eq)]
 pub struct Reply {
-    pub refusal: u8,
-    pub said: u8,
-    pub summary: SummaryImage,
     pub place: u64,
     pub number: u64,
     pub request: RequestImage,
+    pub summary: SummaryImage,
+    pub refusal: u8,
+    pub said: u8,
 }
 
 extern "C" {
@@ -201,9 +225,9 @@ extern "C" {
     pub fn meulhaton_pack_structure(tag: u8, count: usize, out: *mut u8, out_length: usize, at: usize) -> Output;
     pub fn meulhaton_read_request(minor: u8, message: *const u8, message_length: usize) -> RequestRead;
     pub fn meulhaton_pack_summary(summary: SummaryImage, out: *mut u8, out_length: usize, at: usize) -> Output;
-    pub fn meulhaton_fresh() -> Image;
-    pub fn meulhaton_arrive(connection: *mut Image, request: RequestImage) -> Reply;
-    pub fn meulhaton_take(connection: *mut Image) -> Reply;
-    pub fn meulhaton_report(connection: *mut Image, outcome: OutcomeImage) -> Reply;
-    pub fn meulhaton_close(connection: *mut Image) -> Reply;
+    pub fn meulhaton_fresh() -> Record;
+    pub fn meulhaton_arrive(connection: *mut Record, request: RequestImage) -> Reply;
+    pub fn meulhaton_take(connection: *mut Record) -> Reply;
+    pub fn meulhaton_report(connection: *mut Record, outcome: OutcomeImage) -> Reply;
+    pub fn meulhaton_close(connection: *mut Record) -> Reply;
 }

@@ -113,7 +113,7 @@ pub fn read_request(version: Version, message: &[u8]) -> Result<RequestRead, Ref
     // SAFETY: the pointer and the length are those of one slice.
     let answer = unsafe { raw::meulhaton_read_request(version.minor(), message.as_ptr(), message.len()) };
     unless_refused(answer.refusal, answer.place, || {
-        let request = Request::from_image(answer.request);
+        let request = Request::named(answer.request);
         RequestRead { request, fields: fields(request, answer.fields) }
     })
 }

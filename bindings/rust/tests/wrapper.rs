@@ -1,6 +1,7 @@
 //! Each function of the wrapper on cases of document 01. What is refused has to leave the buffer and the record as they were.
-use meulhaton::raw::{Image, OutcomeImage, Reply, RequestImage, SummaryImage};
+use meulhaton::raw::{Control, OutcomeImage, Record, Reply, RequestImage, SummaryImage};
 use meulhaton::*;
+use std::mem::{offset_of, size_of};
 
 fn refused(number: u8, place: usize) -> Refusal {
     Refusal { number, place }
@@ -254,7 +255,7 @@ fn refused_calls_leave_the_record() {
 }
 
 /// What every kind and every outcome that names nothing is refused with.
-fn unnamed(image: &Image) -> (u8, u8) {
+fn unnamed(record: &Record) -> (u8, u8) {
     let no_request = RequestImage { kind: 0, n: 0, qid: 0 };
     let refused = |refusal| Reply {
         refusal,
@@ -264,7 +265,7 @@ fn unnamed(image: &Image) -> (u8, u8) {
         number: 0,
         request: no_request,
     };
-    let mut after = image.clone();
+    let mut after = *record;
     let first = unsafe { raw::meulhaton_arrive(&mut after, no_request) }.refusal;
     let second = unsafe { raw::meulhaton_report(&mut after, OutcomeImage { number: 3 }) }.refusal;
     for number in 0..=u8::MAX {
@@ -276,83 +277,166 @@ fn unnamed(image: &Image) -> (u8, u8) {
             assert_eq!(unsafe { raw::meulhaton_report(&mut after, OutcomeImage { number }) }, refused(second));
         }
     }
-    assert_eq!(&after, image);
+    assert_eq!(&after, record);
     (first, second)
 }
 
 #[test]
 fn unnamed_kinds_and_outcomes() {
     let mut c = ready();
-    assert_eq!(unnamed(c.image()), (27, 19));
+    assert_eq!(unnamed(c.record()), (27, 19));
     for _ in 0..32 {
         assert_eq!(c.arrive(Request::Run), Ok(Arrival::Queued));
     }
-    assert_eq!(unnamed(c.image()), (27, 19));
+    assert_eq!(unnamed(c.record()), (27, 19));
     assert_eq!(c.take(), Ok(Taken::Handed { request: Request::Run, number: 2 }));
-    assert_eq!(unnamed(c.image()), (27, 19));
-    let mut broken = c.image().clone();
-    broken.sent += 1;
+    assert_eq!(unnamed(c.record()), (27, 19));
+    let mut broken = *c.record();
+    broken.control.sent += 1;
     assert_eq!(unnamed(&broken), (24, 24));
-    let mut nameless = c.image().clone();
-    nameless.requests[31].kind = 0;
+    let mut nameless = *c.record();
+    nameless.kinds[31] = 0;
     assert_eq!(unnamed(&nameless), (24, 24));
     assert_eq!(c.close(), Ok(()));
-    assert_eq!(unnamed(c.image()), (18, 18));
-    let mut defunct = c.image().clone();
-    defunct.waiting = 1;
+    assert_eq!(unnamed(c.record()), (18, 18));
+    let mut defunct = *c.record();
+    defunct.control.waiting = 1;
     assert_eq!(unnamed(&defunct), (24, 24));
 }
 
 // Only DISCARD and PULL carry numbers: what else stands there is not looked at.
 #[test]
 fn numbers_of_other_kinds_never_matter() {
-    let mut image = ready().image().clone();
-    let reply = unsafe { raw::meulhaton_arrive(&mut image, RequestImage { kind: 0x10, n: 0, qid: i64::MIN }) };
+    let mut record = *ready().record();
+    let reply = unsafe { raw::meulhaton_arrive(&mut record, RequestImage { kind: 0x10, n: 0, qid: i64::MIN }) };
     assert_eq!((reply.refusal, reply.said), (0, 1));
     let mut c = ready();
     assert_eq!(c.arrive(Request::Run), Ok(Arrival::Queued));
-    assert_eq!(c.image(), &image);
+    assert_eq!(c.record(), &record);
+}
+
+/// The record's layout is that of the C header.
+#[test]
+fn layout() {
+    assert_eq!((size_of::<Control>(), size_of::<Record>()), (56, 664));
+    assert_eq!((offset_of!(Control, state), offset_of!(Control, in_flight), offset_of!(Control, first)), (0, 1, 8));
+    assert_eq!((offset_of!(Control, waiting), offset_of!(Control, opened), offset_of!(Control, next)), (16, 24, 32));
+    assert_eq!((offset_of!(Control, accepted), offset_of!(Control, sent)), (40, 48));
+    assert_eq!((offset_of!(Record, control), offset_of!(Record, streams), offset_of!(Record, kinds)), (0, 56, 120));
+    assert_eq!((offset_of!(Record, counts), offset_of!(Record, qids)), (152, 408));
+}
+
+fn zeros() -> Record {
+    let control = Control { state: 0, in_flight: 0, first: 0, waiting: 0, opened: 0, next: 0, accepted: 0, sent: 0 };
+    Record { control, streams: [0; 8], kinds: [0; 32], counts: [0; 32], qids: [0; 32] }
 }
 
 #[test]
-fn bad_images_are_refused() {
-    type Damage = fn(&mut Image);
-    let damages: [Damage; 8] = [
-        |i| i.state = 8,
-        |i| i.state = 4,
-        |i| i.in_flight = 2,
-        |i| i.in_flight = 1,
-        |i| i.waiting = 33,
-        |i| i.requests[0].kind = 0x14,
-        |i| i.opened = 9,
-        |i| i.accepted = 7,
+fn a_fresh_record_is_zeros() {
+    assert_eq!(Connection::fresh().record(), &zeros());
+    assert_eq!(Connection::fresh().requests().count(), 0);
+}
+
+#[test]
+fn bad_records_are_refused() {
+    type Damage = fn(&mut Record);
+    let damages: [Damage; 14] = [
+        |r| r.control.state = 8,
+        |r| r.control.state = 255,
+        |r| r.control.state = 4,
+        |r| r.control.in_flight = 2,
+        |r| r.control.in_flight = 1,
+        |r| r.control.first = 32,
+        |r| r.control.first = 33,
+        |r| r.control.first = usize::MAX,
+        |r| r.control.waiting = 33,
+        |r| r.control.waiting = usize::MAX,
+        |r| r.kinds[1] = 0x14,
+        |r| r.kinds[1] = 0,
+        |r| r.control.opened = 9,
+        |r| r.control.accepted = 7,
     ];
     let mut good = ready();
     assert_eq!(good.arrive(Request::Commit), Ok(Arrival::Queued));
-    for damage in damages {
-        let mut image = good.image().clone();
-        damage(&mut image);
-        let mut c = Connection::from_image(image.clone());
+    let mut closed = good.clone();
+    assert_eq!(closed.close(), Ok(()));
+    let bounds: [Damage; 4] =
+        [|r| r.control.state = 8, |r| r.control.in_flight = 2, |r| r.control.first = 32, |r| r.control.waiting = 1];
+    let damaged = damages.map(|damage| (&good, damage));
+    for (good, damage) in damaged.into_iter().chain(bounds.map(|damage| (&closed, damage))) {
+        let mut record = *good.record();
+        damage(&mut record);
+        let mut c = Connection::from_record(record);
         assert_eq!(c.take(), Err(refused(24, 0)));
         assert_eq!(c.arrive(Request::Run), Err(refused(24, 0)));
         assert_eq!(c.report(Outcome::Success), Err(refused(24, 0)));
         assert_eq!(c.close(), Err(refused(24, 0)));
-        assert_eq!(c.image(), &image);
+        assert_eq!(c.record(), &record);
+    }
+    // Whatever stands in it, what waits can be read.
+    let waiting = |damage: Damage| {
+        let mut record = *good.record();
+        damage(&mut record);
+        Connection::from_record(record).requests().collect::<Vec<_>>()
+    };
+    assert_eq!(waiting(|r| r.kinds[1] = 0x14), [None]);
+    assert_eq!(waiting(|r| r.control.first = usize::MAX).len(), 1);
+    assert_eq!(waiting(|r| r.control.waiting = usize::MAX).len(), 32);
+}
+
+// What lies in the other places never matters, and no call but an arrive that uses one changes it.
+#[test]
+fn unused_places_never_matter() {
+    for kind in [0xAA, 0x0F, 0x3F] {
+        let mut record = *ready().record();
+        record.streams = [77; 8];
+        (record.kinds, record.counts, record.qids) = ([kind; 32], [-9; 32], [1 << 40; 32]);
+        let mut c = Connection::from_record(record);
+        assert_eq!(c.report(Outcome::Success), Err(refused(19, 0)));
+        assert_eq!(c.take(), Ok(Taken::Idle));
+        assert_eq!(c.record(), &record);
+        assert_eq!(c.arrive(Request::Run), Ok(Arrival::Queued));
+        (record.kinds[1], record.counts[1], record.qids[1]) = (0x10, 0, 0);
+        assert_eq!(c.take(), Ok(Taken::Handed { request: Request::Run, number: 2 }));
+        assert_eq!(c.report(Outcome::More), Err(refused(19, 0)));
+        assert_eq!(c.report(Outcome::Success), Ok(Answered { summary: Summary::Success, number: 2 }));
+        assert_eq!(c.state(), Some(State::Streaming));
+        assert_eq!(c.close(), Ok(()));
+        let Record { control, streams, kinds, counts, qids } = *c.record();
+        assert_eq!((control.first, control.waiting), (2, 0));
+        assert_eq!((streams, kinds, counts, qids), (record.streams, record.kinds, record.counts, record.qids));
     }
 }
 
-// What lies past the counts never matters, and a refused call leaves it too.
+/// 32 wait, all are served, and 32 wait again: from each first place on, the requests come in their order and stay where they are.
 #[test]
-fn unused_places_never_matter() {
-    let mut image = ready().image().clone();
-    image.streams = [77; 8];
-    image.requests = [RequestImage { kind: 0xAA, n: -9, qid: 1 << 40 }; 32];
-    let mut c = Connection::from_image(image.clone());
-    assert_eq!(c.report(Outcome::Success), Err(refused(19, 0)));
-    assert_eq!(c.image(), &image);
-    assert_eq!(c.arrive(Request::Run), Ok(Arrival::Queued));
-    assert_eq!(c.take(), Ok(Taken::Handed { request: Request::Run, number: 2 }));
-    assert_eq!(c.report(Outcome::More), Err(refused(19, 0)));
-    assert_eq!(c.report(Outcome::Success), Ok(Answered { summary: Summary::Success, number: 2 }));
-    assert_eq!(c.state(), Some(State::Streaming));
+fn around_the_ring() {
+    for first in 0..32 {
+        let mut record = *ready().record();
+        record.control.first = first;
+        let mut c = Connection::from_record(record);
+        let request = |turn: i64| match turn % 2 {
+            0 => Request::Run,
+            _ => Request::Pull { n: turn, qid: -1 },
+        };
+        for round in 0..3 {
+            let turns = 32 * round..32 * (round + 1);
+            for turn in turns.clone() {
+                assert_eq!(c.arrive(request(turn)), Ok(Arrival::Queued));
+            }
+            assert_eq!(c.arrive(Request::Run), Err(refused(17, 0)));
+            let full = *c.record();
+            for turn in turns.clone() {
+                assert!(c.requests().eq((turn..turns.end).map(|later| Some(request(later)))));
+                let number = turn as u64 + 2;
+                assert_eq!(c.take(), Ok(Taken::Handed { request: request(turn), number }));
+                assert_eq!(c.report(Outcome::Success).map(|answered| answered.number), Ok(number));
+                assert_eq!(c.record().control.first, (first + turn as usize + 1) % 32);
+            }
+            assert_eq!((c.waiting(), c.requests().count()), (0, 0));
+            let Record { control, streams, kinds, counts, qids } = *c.record();
+            assert_eq!(control.first, first);
+            assert_eq!((streams, kinds, counts, qids), (full.streams, full.kinds, full.counts, full.qids));
+        }
+    }
 }

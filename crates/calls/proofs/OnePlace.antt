@@ -11,14 +11,14 @@ use base.Fml.{Fml, GName, ftrue, fsep, fat, froom, flft, flent, fres}
 use prog.Wp.{Heap, Env, Calls, Loops}
 use ghost.Atoms.{Atoms, sem}
 use contract.Monad.{Fun, fact}
-use types.Kit.{Given, Item, ‵, raw, some, later, _⊛_, mean, Post, runs, lands, Seq, _$_, _∵_, !, qed, move, drop, use1, use3, split, join, pick, rewrite, fsplit, fpick, frame, await, done}
+use types.Kit.{Given, Item, ‵, raw, some, later, _⊛_, mean, Post, runs, lands, Seq, _$_, _∵_, !, qed, move, drop, use1, use3, split, join, pick, rewrite, fsplit, fjoin, fpick, fpack, frame, await, done}
 use types.Run.{Opds, forget}
 use types.SemTy.{Body}
 use types.Tokens.{lft-new, lft-end}
 use sound.WpLaws.{FmC}
 use denote.RattleType.{RattleType, owns}
 use denote.Laws.{Is, Typed, shows}
-use denote.Memory.{mem, partOf}
+use denote.Memory.{mem, cellAt, partOf}
 use denote.Lend.{lends-ref, ref-back}
 use denote.Ref.{RefT, MutRef}
 use denote.Steps.{only, owned, facts, heard, nothing}
@@ -30,11 +30,14 @@ use denote.Enum.Laws as EL
 use denote.Triple.Call.{calls-from}
 use Rattle.refusal.specs.Answer.{Answer}
 use Rattle.states.specs.Table.{Said}
-use Rattle.connection.specs.Record.{After}
-use Rattle.connection.specs.declared.record.Connection.{Connection}
-use Rattle.connection.proofs.record.Connection as T
-use Rattle.connection.proofs.record.Connection.Laws as T′
-use Rattle.connection_in_place.proofs.Lending.{vals}
+use Rattle.record.specs.Calls.{After}
+use Rattle.record.specs.declared.record.Connection.{Connection}
+use Rattle.record.proofs.record.Connection as T
+use Rattle.record.proofs.record.Connection.Laws as T′
+
+-- the machine values of a record
+abbrev pub vals : Connection → List Val
+vals = LL.vals T.the-type T′.the-laws
 
 -- an enum that owns only facts: its row, a value's machine values, and the relation of the two
 pub record Plain : Type 2 where
@@ -83,6 +86,15 @@ module _ {M : Type 1} (𝓤 : URA M) (H : Heap 𝓤) (A : Atoms 𝓤) where
     asks-more P x fits =
         qed W (‵ (flft (α ∷ []) fullShare) ∷ ‵ (MutRef (named 0) (α ∷ []) T.the-row .own (ref b γ z) (vptr b 0 ∷ [])) ∷ []) ∵
         nothing ! $ move ! (1 ∷ 0 ∷ []) $ join ! $ nothing ! $ owned ! (row P) (Is (row P)) (EL.makes (P .type) (P .plain) 𝓤 H A) x (spell P x) fits $ join ! $ move ! (2 ∷ 0 ∷ []) $ join ! $ move ! (1 ∷ 0 ∷ []) $ join ! $ frame ! $ done !
+
+  -- a record in a local's cell lies there, so that it can be lent
+  pub lies-in : Given 𝓤 H A → (z : Connection) → Is T.the-row z (vals z) → (b : ℕ) → ent 𝓤 (sem 𝓤 H A (fat fullShare T′.mir b 0 (only (vals z)))) (sem 𝓤 H A (mem T.the-row .lies z b 0))
+  unfolding partOf
+  lies-in W z fits b =
+      qed W (‵ (fat fullShare T′.mir b 0 (only (vals z))) ∷ []) ∵
+      use1 W (‵ (cellAt fullShare (T.the-row .mir) (vals z) b 0)) (W .laws .at-raw fullShare T′.mir b 0 (only (vals z))) $
+      owned ! T.the-row (Is T.the-row) (LL.makes T.the-type T′.the-plain 𝓤 H A) z _ fits $ move ! (1 ∷ 0 ∷ []) $ fjoin ! $
+      fpack ! (List Val) (λ us. fsep (cellAt fullShare (T.the-row .mir) us b 0) (T.the-row .own z us)) (vals z) $ done !
 
   -- a record's cell is room again
   pub room-of : Given 𝓤 H A → (z : Connection) (b : ℕ) → ent 𝓤 (sem 𝓤 H A (mem T.the-row .lies z b 0)) (sem 𝓤 H A (froom T′.mir b 0))

@@ -1,15 +1,17 @@
 // What the calls answer, written as bytes.
 use crate::conversation::Heard;
-use crate::requests;
-use connection::record::Connection;
+use crate::request_bytes;
 use console::output;
 use packing::Packed;
+use record::names;
+use record::record::Connection;
 use refusal::Refusal;
 use states::answers::Arrival;
 use states::answers::Closing;
 use states::answers::Reported;
 use states::answers::Summary;
 use states::answers::Taken;
+use states::request;
 use states::request::Request;
 
 // The longest summary has 60 bytes.
@@ -30,10 +32,11 @@ fn refused(why: Refusal) {
 
 // 03, the request's tag and number, and its own numbers.
 fn handed(request: Request, number: u64) {
+    let kind = request::tag(request);
     output::byte(0x03);
-    output::byte(requests::tag_of(request));
+    output::byte(kind);
     output::unsigned(number, 4);
-    requests::write_numbers(request);
+    request_bytes::write_numbers(kind, names::count_of(request), names::qid_of(request));
 }
 
 // 04, the request's number, and the summary that answers it.

@@ -1,5 +1,5 @@
 // A conversation on one record, which lies in one place from the first call to the last.
-use connection::record::Connection;
+use record::record::Connection;
 use states::answers::Arrival;
 use states::answers::Closing;
 use states::answers::Outcome;
@@ -31,13 +31,13 @@ pub fn hold(
     ensures { λ r. ⌜ told r ≡ conversation start first outcome second ending ⌝ }
 {
     let mut connection = start;
-    let arrival = connection_in_place::arrive(&mut connection, first);
-    let taken = connection_in_place::take(&mut connection);
-    let reported = connection_in_place::report(&mut connection, outcome);
-    let second_arrival = connection_in_place::arrive(&mut connection, second);
-    let second_taken = connection_in_place::take(&mut connection);
-    let second_reported = connection_in_place::report(&mut connection, ending);
-    let closing = connection_in_place::close(&mut connection);
+    let arrival = connection::arrive(&mut connection, first);
+    let taken = connection::take(&mut connection);
+    let reported = connection::report(&mut connection, outcome);
+    let second_arrival = connection::arrive(&mut connection, second);
+    let second_taken = connection::take(&mut connection);
+    let second_reported = connection::report(&mut connection, ending);
+    let closing = connection::close(&mut connection);
     Heard {
         arrival: arrival,
         taken: taken,

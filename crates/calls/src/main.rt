@@ -8,24 +8,26 @@
 //     14  close                                               01
 //     15  show record                                         00 and the record, see show.rt
 //     16  set record     a record as 15 shows it              00
+//     17  set place      place (1), kind (1), n (8), qid (8)  00
 //     18  conversation   a request, a report, the same again  what 11, 12, 13, 11, 12, 13 and 14 answer
 //
 // A refusal is FF, its number (1), its place (4). A line that is no operation gives FE. A request is its tag (1) and, for DISCARD and PULL,
-// n (8) and qid (8). Operations 10 to 16 work on one record, which is fresh at first; 18 on a fresh one of its own. A line that begins with
-// `#` names the lines behind it, and is written as it stands.
+// n (8) and qid (8). Operations 10 to 17 work on one record, which is fresh at first; 18 on a fresh one of its own. Operation 17 sets a place
+// of the ring, below 32, to numbers that need name no request, whether one waits there or not. A line that begins with `#` names the lines
+// behind it, and is written as it stands.
 mod answers;
+mod by_value;
 mod conversation;
 mod operands;
 mod operations;
-mod requests;
+mod request_bytes;
 mod set;
 mod show;
-mod state_bytes;
 
-use connection::record::Connection;
 use console::input;
 use console::output;
 use hex::Decoded;
+use record::record::Connection;
 
 // What the name of a group of lines begins with.
 const NAME_MARK: u8 = b'#';
@@ -54,7 +56,7 @@ fn run_line(line: &[u8], bytes: &mut [u8], connection: Connection) -> Connection
 
 // The input need not end, so the turns are counted down from a number that no run uses up.
 fn run(block: &mut [u8], held: &mut [u8], bytes: &mut [u8]) {
-    let mut connection = connection::record::fresh();
+    let mut connection = record::record::fresh();
     let mut line = input::fresh();
     let mut turns = u64::MAX;
     while 0 < turns {

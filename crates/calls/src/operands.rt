@@ -10,6 +10,11 @@ pub fn byte_at(operands: &[u8], at: usize) -> u8 {
     operands[at]
 }
 
+// A place or a count, which is one byte.
+pub fn count_at(operands: &[u8], at: usize) -> usize {
+    byte_at(operands, at) as usize
+}
+
 // The number in the eight bytes at `at`.
 pub fn number_at(operands: &[u8], at: usize) -> u64 {
     match numbers::read_unsigned(operands, at, 8) {

@@ -1,9 +1,3 @@
-pub mod Answering
-pub mod Arrays
-pub mod Bits
-pub mod Choices
 pub mod Crossing
-pub mod Leaving
-pub mod OnImage
-pub mod Signed
+pub mod Replying
 pub mod Versions

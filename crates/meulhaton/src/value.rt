@@ -2,117 +2,22 @@
 ghost use mathlib.Core.Path.{_≡_};
 ghost use Rattle.refusal.specs.Answer.{result, left};
 ghost use Rattle.values.specs.Decode.{valueIn, decode};
-ghost use Rattle.values.specs.Reading as reading;
 ghost use Rattle.values.specs.Reading.{allowed, tellMessage, tellValue};
 ghost use Rattle.packing.specs.Packing as packing;
 ghost use Rattle.packing.specs.Packing.{packBoolean, packInteger, stringForm, dictionaryForm, structureForm, fitted, leaves, telling};
 ghost use Rattle.meulhaton.specs.Wire.{outputOf};
-ghost use Rattle.meulhaton.specs.Values.{plain, lying, headImage, valueAnswer};
+ghost use Rattle.meulhaton_fields.specs.Values.{valueAnswer};
 use crate::wire::Output;
+use meulhaton_fields::value;
+use meulhaton_fields::value::ValueRead;
 use packing::Packed;
-use values::head::Head;
-use values::read::Reading;
-
-// What a value is: Null 1, Boolean 2, Integer 3, Float 4, Bytes 5, String 6, List 7, Dictionary 8, Structure 9; then what it holds.
-// `start` and `size`: where the content of Bytes or a String lies; or the marker of the first item, entry or field, and how many they are.
-#[repr(C)]
-pub struct HeadImage {
-    pub kind: u8,
-    pub boolean: u8,
-    pub tag: u8,
-    pub integer: i64,
-    pub bits: u64,
-    pub start: u64,
-    pub size: u64,
-}
-
-// A value and the offset past it, or the refusal.
-#[repr(C)]
-pub struct ValueRead {
-    pub refusal: u8,
-    pub place: u64,
-    pub end: u64,
-    pub head: HeadImage,
-}
-
-// A value that lies nowhere but in its marker or its number.
-fn plain(kind: u8, boolean: u8, integer: i64, bits: u64) -> HeadImage
-    ensures { λ r. ⌜ r ≡ plain kind boolean integer bits ⌝ }
-{
-    HeadImage {
-        kind: kind,
-        boolean: boolean,
-        tag: 0,
-        integer: integer,
-        bits: bits,
-        start: 0,
-        size: 0,
-    }
-}
-
-// A value whose content, or what it holds, lies from `start` on.
-fn lying(kind: u8, tag: u8, start: usize, size: usize) -> HeadImage
-    ensures { λ r. ⌜ r ≡ lying kind tag start size ⌝ }
-{
-    HeadImage {
-        kind: kind,
-        boolean: 0,
-        tag: tag,
-        integer: 0,
-        bits: 0,
-        start: start as u64,
-        size: size as u64,
-    }
-}
-
-fn head_image(head: Head) -> HeadImage
-    ensures { λ r. ⌜ r ≡ headImage head ⌝ }
-{
-    match head {
-        Head::Null => plain(1, 0, 0, 0),
-        Head::Boolean(value) => plain(2, value as u8, 0, 0),
-        Head::Integer(number) => plain(3, 0, number, 0),
-        Head::Float(bits) => plain(4, 0, 0, bits),
-        Head::Bytes { start, size } => lying(5, 0, start, size),
-        Head::String { start, size } => lying(6, 0, start, size),
-        Head::List { first, count } => lying(7, 0, first, count),
-        Head::Dictionary { first, count } => lying(8, 0, first, count),
-        Head::Structure { tag, first, count } => lying(9, tag, first, count),
-    }
-}
-
-fn value_answer(found: Reading) -> ValueRead
-    ensures { λ r. ⌜ r ≡ valueAnswer (reading.told found) ⌝ }
-{
-    match found {
-        Reading::Value { head, end } => {
-            let image = head_image(head);
-            ValueRead {
-                refusal: 0,
-                place: 0,
-                end: end as u64,
-                head: image,
-            }
-        }
-        Reading::Refused { refusal, place } => {
-            let number = refusal.number();
-            let none = plain(0, 0, 0, 0);
-            ValueRead {
-                refusal: number,
-                place: place as u64,
-                end: 0,
-                head: none,
-            }
-        }
-    }
-}
 
 // A whole message as one value: `values::read::read_message`.
 #[no_mangle]
 pub extern "C" fn meulhaton_read_message(message: &[u8]) -> ValueRead
     ensures { λ r. ⌜ r ≡ valueAnswer (tellMessage (now (message .entry)) (decode (now (message .entry)))) ⌝ }
 {
-    value_answer(values::read::read_message(message))
+    value::value_answer(values::read::read_message(message))
 }
 
 // The value at `at`, with room for `depth` open containers, of which there are never more than 16: `values::read::read_value`.
@@ -120,7 +25,7 @@ pub extern "C" fn meulhaton_read_message(message: &[u8]) -> ValueRead
 pub extern "C" fn meulhaton_read_value(message: &[u8], at: usize, depth: usize) -> ValueRead
     ensures { λ r. ⌜ r ≡ valueAnswer (tellValue (valueIn (now (message .entry)) (allowed depth) at)) ⌝ }
 {
-    value_answer(values::read::read_value(message, at, depth))
+    value::value_answer(values::read::read_value(message, at, depth))
 }
 
 pub fn packed(done: Packed) -> Output

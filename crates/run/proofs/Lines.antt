@@ -11,8 +11,7 @@ use Rattle.refusal.specs.Answer.{Answer, result, refused, left}
 use Rattle.lines.specs.Lines.{firstLine, hasEnd, firstLines}
 use Rattle.lines.specs.Blocks.{Cut, cut, heldOf}
 use Rattle.lines.proofs.Blocks.{firstCut, cut-first}
-use Rattle.session.specs.declared.phase.Session.{Session}
-use Rattle.session.specs.Session.{nextOf, written, handling, Told, telling, goingOn, putting}
+use Rattle.session.specs.Session.{Session, nextOf, written, handling, Told, telling, goingOn, putting}
 use Rattle.session.specs.Room.{enough}
 use Rattle.session.proofs.Room.{room}
 use Rattle.session.proofs.Receiving.{from-start}

@@ -16,10 +16,9 @@ use Rattle.lines.specs.Blocks.{cut, linesIn}
 use Rattle.lines.proofs.Blocks.{cutting}
 use Rattle.session.specs.declared.phase.Phase.{Phase}
 use Rattle.session.specs.declared.phase.Phase.the-variants.{Awaiting, Open}
-use Rattle.connection.specs.declared.record.Connection.{Connection}
-use Rattle.session.specs.declared.phase.Session.{Session}
+use Rattle.record.specs.declared.record.Connection.{Connection}
 use Rattle.session.specs.Receiving.{handshakeIn, Brought, broughtIn}
-use Rattle.session.specs.Session.{Next, replying, answering, nextOf, inPhase, written, runOf, fresh}
+use Rattle.session.specs.Session.{Session, Next, replying, answering, nextOf, inPhase, written, runOf, fresh}
 use Rattle.run.specs.Run.{Progress, start, afterLine, sentFor, afterLines, sentForLines}
 use Rattle.run.specs.Whole.{blocks, Claim}
 use Rattle.run.proofs.Feeding.{sent-append}

@@ -3,12 +3,13 @@
 use Prim.Native.Nat.{ℕ, _/_}
 use mathlib.Core.Bool.{Bool, true, cond}
 use mathlib.Core.List.{List, [], _∷_, _++_}
+use lib.IntN.{ℤ}
 use lib.ListN.{length, take}
 use Rattle.slices.specs.Parts.{front}
 use Rattle.lines.specs.Lines.{firstLines}
 use Rattle.lines.specs.Blocks.{Cut, cut, missingEnd}
-use Rattle.session.specs.declared.phase.Session.{Session}
-use Rattle.session.specs.Session.{fresh, nextOf, written}
+use Rattle.session.specs.declared.phase.Session.{Session as Held}
+use Rattle.session.specs.Session.{Session, fresh, nextOf, written, sessionIn}
 use Rattle.session.specs.Room.{enough}
 use Rattle.run.specs.declared.Run.{Run}
 
@@ -53,15 +54,19 @@ abbrev pub block : ℕ → Progress → List ℕ → List ℕ → Step
 block most p begun s = stepOf p (cut most begun s)
 
 -- ---- a block on what the code keeps
-abbrev pub progressOf : Run → Progress
-progressOf r = record { session = r .session; goesOn = r .«goes_on» }
+-- the record's arrays lie beside it
+abbrev pub progressIn : Held → Bool → List ℕ → List ℕ → List ℤ → List ℤ → Progress
+progressIn s goes-on streams kinds counts qids = record { session = sessionIn s streams kinds counts qids; goesOn = goes-on }
+
+abbrev pub progressOf : Run → List ℕ → List ℕ → List ℤ → List ℤ → Progress
+progressOf r = progressIn (r .session) (r .«goes_on»)
 
 -- the line that has begun stands in front of the memory in which lines are held
 abbrev pub cutIn : List ℕ → Run → List ℕ → Cut
 cutIn held r s = cut (length held) (take (r .begun) held) s
 
-abbrev pub stepIn : List ℕ → Run → List ℕ → Step
-stepIn held r s = stepOf (progressOf r) (cutIn held r s)
+abbrev pub stepIn : List ℕ → Run → List ℕ → List ℕ → List ℤ → List ℤ → List ℕ → Step
+stepIn held r streams kinds counts qids s = stepOf (progressOf r streams kinds counts qids) (cutIn held r s)
 
 -- lines that are held one after the other, each in front: what they leave of the memory
 unfoldable pub heldAfter : List ℕ → List (List ℕ) → List ℕ

@@ -1,18 +1,16 @@
 -- The turns never run out before the connection is idle or closed: the theorem `idles`. Each turn that goes on leaves fewer requests
 -- waiting. Assumes nothing.
 use mathlib.Core.Path.{_≡_, refl, sym, ap, _∙_, subst}
-use mathlib.Core.Bool.{Bool, true, false, cond}
-use mathlib.Core.List.{List, [], _∷_, _++_, map}
-use Prim.Native.Nat.{ℕ, zero, suc, _+_, _<_, _≤_}
+use mathlib.Core.Bool.{true, false}
+use mathlib.Core.List.{List, [], _∷_}
+use mathlib.Core.Logic.{⊎-elim}
+use Prim.Native.Nat.{ℕ, zero, suc, _<_, _≤_}
 use native.Mathlib.Omega.{arith}
 use lib.Dec.{leb}
-use lib.ListN.{length, length-append}
-use lib.Seq.{length-sets}
-use borrow.Author.Tests.{leb-false}
+use lib.ListN.{length}
 use Rattle.refusal.specs.Answer.{Answer, result, refused}
 use Rattle.states.specs.declared.state.State.the-variants.{Connected, Interrupted, Defunct}
 use Rattle.states.specs.declared.request.Request.{Request}
-use Rattle.connection.specs.declared.record.Connection.{Connection}
 use Rattle.states.specs.declared.answers.Outcome.the-variants.{Success}
 use Rattle.states.specs.declared.turn.Turn.{Turn}
 use Rattle.states.specs.declared.turn.Turn.the-variants as U
@@ -20,12 +18,17 @@ use Rattle.states.specs.Requests.{kindOf, inState, is, inRange}
 use Rattle.bolt.specs.Requests.{RESET}
 use Rattle.states.specs.Appendix.{newState}
 use Rattle.states.specs.Table as T
-use Rattle.states.specs.Table.{Table, Said, Done, takeT, takeFirst, taken, turnOf as turnIn, arriveT, accept, reportT, reportFirst, reported, streamsAfter, response}
-use Rattle.connection.specs.Record.{After, kept, put, slot, keepsRules, carried, arriveOf, takeOf, reportOf}
+use Rattle.states.specs.Table.{Table, Call, Said, Done, step, takeT, takeFirst, taken, turnOf as turnIn, arriveT, reportT, reportFirst, reported, streamsAfter, response}
+use Rattle.states.specs.Events.{Event, saidBy, leftBy}
 use Rattle.states.proofs.Bools.{by-test}
-use Rattle.connection.proofs.Calls.{fits, few}
-use Rattle.connection.proofs.Keeping.{put-own}
-use Rattle.connection.proofs.Waiting.{front-length}
+use Rattle.states.proofs.Counting.{either}
+use Rattle.record.specs.declared.record.Connection.{Connection}
+use Rattle.record.specs.Record.{kept, keepsRules}
+use Rattle.record.specs.Calls.{After, arriveOf, takeOf, reportOf}
+use Rattle.claims.specs.Calls.{callOf}
+use Rattle.claims.specs.Claim.{Sized}
+use Rattle.claims.proofs.Demand3.{claim}
+use Rattle.claims.proofs.Following.{Fit, rules-fit, follows}
 use Rattle.serving.specs.Serving.{End, idle, Serving, succeeding, turnOf, following, serving, turns, served}
 use Rattle.serving.specs.Idle.{Claim}
 
@@ -87,97 +90,92 @@ reports t =
     by-test (Reports t) (inState (t .state) Defunct) (λ _. tt)
     (λ _. by-test (Reports t) (t .inFlight) (λ _. first-reported t (t .waiting) refl) (λ _. tt))
 
--- an arrival is queued only where fewer than 32 wait
-abbrev Queued : Said → Table → Type 0
-Queued T.queued u = length (u .waiting) ≤ 32
-Queued T.closed u = Unit {0}
-Queued T.idle u = ⊥
-Queued (T.handed r n) u = ⊥
-Queued (T.answered s n) u = ⊥
-
-abbrev Arrives : Answer Done → Type 0
-Arrives (result d) = Queued (d .said) (d .table)
+-- an arrival is queued, or closes
+abbrev Arrives : Answer Said → Type 0
 Arrives (refused number place) = Unit {0}
+Arrives (result T.queued) = Unit {0}
+Arrives (result T.closed) = Unit {0}
+Arrives (result T.idle) = ⊥
+Arrives (result (T.handed r n)) = ⊥
+Arrives (result (T.answered s n)) = ⊥
 
-accepted : (t : Table) (r : Request) → length (t .waiting) < 32 → Queued (accept t r .said) (accept t r .table)
-accepted t r h =
-    let n : length (t .waiting ++ (r ∷ [])) ≤ 32 = omega (arith, length-append (t .waiting) (r ∷ [])) in
-    by-test (λ (d : Done). Queued (d .said) (d .table)) (is RESET r)
-    (λ _. by-test (λ (d : Done). Queued (d .said) (d .table)) (inState (t .state) Connected) (λ _. tt) (λ _. n)) (λ _. n)
-
-arrives : (t : Table) (r : Request) → Arrives (arriveT t r)
+arrives : (t : Table) (r : Request) → Arrives (saidBy (arriveT t r))
 arrives t r =
-    by-test Arrives (inState (t .state) Defunct) (λ _. tt)
-    (λ _. by-test Arrives (inRange r)
-    (λ _. by-test Arrives (leb 4294967295 (t .accepted)) (λ _. tt)
-    (λ _. by-test Arrives (leb 32 (length (t .waiting))) (λ _. tt) (λ e. accepted t r (leb-false 32 (length (t .waiting)) e)))) (λ _. tt))
+    let P : Answer Done → Type 0 = λ a. Arrives (saidBy a) in
+    let Q : Done → Type 0 = λ d. Arrives (result (d .said)) in
+    by-test P (inState (t .state) Defunct) (λ _. tt)
+    (λ _. by-test P (inRange r)
+    (λ _. by-test P (leb 4294967295 (t .accepted)) (λ _. tt)
+    (λ _. by-test P (leb 32 (length (t .waiting))) (λ _. tt) (λ _. by-test Q (is RESET r) (λ _. by-test Q (inState (t .state) Connected) (λ _. tt) (λ _. tt)) (λ _. tt))))
+    (λ _. tt))
 
--- ---- the record
--- its arrays have the lengths of their types
-record Sized (c : Connection) : Type 0 where
-  slots : length (c .queue .slots) ≡ 32
-  numbers : length (c .control .streams .numbers) ≡ 8
+-- ---- a record that keeps the rules
+-- a call answers what the table says, and the record after it keeps what the table leaves
+record Stepped (c : Connection) (x : Call) : Type 0 where
+  answer : callOf c x .answer ≡ saidBy (step (kept c) x)
+  table : kept (callOf c x .connection) ≡ leftBy (kept c) (step (kept c) x)
+  fit : Fit (callOf c x .connection)
 
-sized-put : (c : Connection) (t : Table) → Sized c → Sized (put c t)
-sized-put c t s = record {
-  slots = length-sets (c .queue .slots) 0 (map slot (t .waiting)) ∙ s .slots;
-  numbers = length-sets (c .control .streams .numbers) 0 (t .streams .numbers) ∙ s .numbers;
-}
+first-answer : List Event → Answer Said
+first-answer [] = refused 0 0
+first-answer (e ∷ es) = e .answer
 
-waits : (c : Connection) → Sized c → keepsRules c ≡ true → length (kept c .waiting) ≡ c .control .waiting
-waits c s k = front-length (c .queue .slots) (c .control .waiting) (s .slots) (few c k)
+stepped : (c : Connection) → Fit c → (x : Call) → Stepped c x
+unfolding first-answer
+stepped c f x = let w = follows c f (x ∷ []) in record { answer = ap first-answer (w .seen); table = w .final; fit = w .fit }
 
--- what a turn says, and the record after it
-abbrev Turned : Connection → Answer Said → Connection → Type 0
-Turned c (refused number place) d = Unit {0}
-Turned c (result T.queued) d = ⊥
-Turned c (result T.closed) d = Unit {0}
-Turned c (result T.idle) d = (d ≡ c) × (takeOf c .answer ≡ result T.idle)
-Turned c (result (T.handed r n)) d = ⊥
-Turned c (result (T.answered s n)) d = (d .control .waiting < c .control .waiting) × Sized d
+abbrev waits : Connection → ℕ
+waits c = length (kept c .waiting)
+
+-- what a turn with so many waiting says, and the record after it
+abbrev Turned : ℕ → Answer Said → Connection → Type 0
+Turned n (refused number place) d = Unit {0}
+Turned n (result T.queued) d = ⊥
+Turned n (result T.closed) d = Unit {0}
+Turned n (result T.idle) d = takeOf d .answer ≡ result T.idle
+Turned n (result (T.handed r k)) d = ⊥
+Turned n (result (T.answered s k)) d = (waits d < n) × Fit d
 
 -- a report after the take that handed the request over
-module _ (c d : Connection) (less : d .control .waiting ≤ c .control .waiting) (s : Sized d) where
-  answered-turn : (k : keepsRules d ≡ true) (w : Said) (u : Table) → Answered (kept d) w u → Turned c (result w) (put d u)
-  answered-turn k T.queued u h = h
-  answered-turn k T.closed u h = absurd h
-  answered-turn k T.idle u h = absurd h
-  answered-turn k (T.handed r n) u h = h
-  answered-turn k (T.answered m n) u h = (omega (arith, h, waits d s k), sized-put d u s)
-
-  carried-turn : (k : keepsRules d ≡ true) (a : Answer Done) → Reports (kept d) a → Turned c (carried d a .answer) (carried d a .connection)
-  carried-turn k (result e) h = answered-turn k (e .said) (e .table) h
-  carried-turn k (refused number place) h = tt
-
-  reported-turn : Turned c (reportOf d Success .answer) (reportOf d Success .connection)
-  reported-turn = by-test (λ (a : After). Turned c (a .answer) (a .connection)) (keepsRules d) (λ k. carried-turn k (reportT (kept d) Success) (reports (kept d))) (λ _. tt)
-
-module _ (c : Connection) (s : Sized c) where
-  abbrev Turning : After → Type 0
-  Turning a = Turned c (succeeding (a .answer) a .answer) (succeeding (a .answer) a .connection)
-
-  took-turn : (k : keepsRules c ≡ true) (w : Said) (u : Table) → takeOf c .answer ≡ result w → Took (kept c) w u → Turning (record { connection = put c u; answer = result w })
-  took-turn k T.queued u e h = h
-  took-turn k T.closed u e h = tt
-  took-turn k T.idle u e h = (ap (put c) h ∙ put-own (c .control) (c .queue) (fits (c .control) (c .queue) k (s .slots) (s .numbers)), e)
-  took-turn k (T.handed r n) u e h = reported-turn c (put c u) (omega (arith, h, waits c s k)) (sized-put c u s)
-  took-turn k (T.answered m n) u e h = (omega (arith, h, waits c s k), sized-put c u s)
-
-  take-turn : (k : keepsRules c ≡ true) (a : Answer Done) → takeOf c .answer ≡ carried c a .answer → Takes (kept c) a → Turning (carried c a)
-  take-turn k (result d) e h = took-turn k (d .said) (d .table) e h
-  take-turn k (refused number place) e h = tt
-
-  turned : Turned c (turnOf c .answer) (turnOf c .connection)
-  unfolding turnOf
-  turned = by (keepsRules c) refl
+module _ (n : ℕ) (c : Connection) (f : Fit c) (less : waits c ≤ n) where
+  after-report : (d : Connection) → Fit d → (a : Answer Done) → kept d ≡ leftBy (kept c) a → Reports (kept c) a → Turned n (saidBy a) d
+  after-report d g (refused number place) e h = tt
+  after-report d g (result u) e h = by (u .said) h
     where
-      by : (b : Bool) → keepsRules c ≡ b → Turning (takeOf c)
-      by true k =
-          let e : takeOf c ≡ carried c (takeT (kept c)) = ap (λ (b : Bool). cond b (carried c (takeT (kept c))) (record { connection = c; answer = refused 24 0 })) k in
-          subst Turning (sym e) (take-turn k (takeT (kept c)) (ap (λ (a : After). a .answer) e) (takes (kept c)))
-      by false k =
-          let e : takeOf c ≡ record { connection = c; answer = refused 24 0 } = ap (λ (b : Bool). cond b (carried c (takeT (kept c))) (record { connection = c; answer = refused 24 0 })) k in
-          subst Turning (sym e) tt
+      by : (s : Said) → Answered (kept c) s (u .table) → Turned n (result s) d
+      by T.queued h = h
+      by T.closed h = absurd h
+      by T.idle h = absurd h
+      by (T.handed r k) h = h
+      by (T.answered s k) h = (omega (arith, h, less, ap (λ (t : Table). length (t .waiting)) e), g)
+
+  report-turn : Turned n (reportOf c Success .answer) (reportOf c Success .connection)
+  report-turn =
+      let w : Stepped c (T.report Success) = stepped c f (T.report Success) in
+      subst (λ (x : Answer Said). Turned n x (reportOf c Success .connection)) (sym (w .answer))
+      (after-report (reportOf c Success .connection) (w .fit) (reportT (kept c) Success) (w .table) (reports (kept c)))
+
+-- a take, and the report where it hands over
+module _ (c : Connection) (f : Fit c) where
+  abbrev Turning : Answer Said → Connection → Type 0
+  Turning x d = let a : After = succeeding x (record { connection = d; answer = x }) in Turned (waits c) (a .answer) (a .connection)
+
+  after-take : (d : Connection) → Fit d → (a : Answer Done) → saidBy (takeT (kept c)) ≡ saidBy a → kept d ≡ leftBy (kept c) a → Takes (kept c) a → Turning (saidBy a) d
+  after-take d g (refused number place) s e h = tt
+  after-take d g (result u) s e h = by (u .said) s h
+    where
+      by : (x : Said) → saidBy (takeT (kept c)) ≡ result x → Took (kept c) x (u .table) → Turning (result x) d
+      by T.queued s h = h
+      by T.closed s h = tt
+      by T.idle s h = stepped d g T.take .answer ∙ ap (λ (t : Table). saidBy (takeT t)) (e ∙ h) ∙ s
+      by (T.handed r k) s h = report-turn (waits c) d g (omega (arith, h, ap (λ (t : Table). length (t .waiting)) e))
+      by (T.answered m k) s h = (omega (arith, h, ap (λ (t : Table). length (t .waiting)) e), g)
+
+  turned : Turned (waits c) (turnOf c .answer) (turnOf c .connection)
+  unfolding turnOf
+  turned =
+      let w : Stepped c T.take = stepped c f T.take in
+      subst (λ (x : Answer Said). Turning x (takeOf c .connection)) (sym (w .answer)) (after-take (takeOf c .connection) (w .fit) (takeT (kept c)) refl (w .table) (takes (kept c)))
 
 -- ---- turn after turn
 numberOf : End → ℕ
@@ -192,55 +190,47 @@ not-idle x e i = let z : _≡_ {A = ℕ} 1 0 = sym e ∙ ap numberOf i in omega 
 abbrev Ends : Serving → Type 0
 Ends w = w .end ≡ idle → takeOf (w .connection) .answer ≡ result T.idle
 
-follows : (c : Connection) (n : ℕ) → c .control .waiting < suc n → (x : Answer Said) (d : Connection) (later : Serving) → Turned c x d
-    → (Sized d → d .control .waiting < n → Ends later) → Ends (following x d later)
+follows-on : (n m : ℕ) → m < suc n → (x : Answer Said) (d : Connection) (later : Serving) → Turned m x d → (Fit d → waits d < n → Ends later) → Ends (following x d later)
 unfolding numberOf
-follows c n h (refused number place) d later w go = λ i. absurd (not-idle (End.refusal number) refl i)
-follows c n h (result T.queued) d later w go = absurd w
-follows c n h (result T.closed) d later w go = λ i. absurd (not-idle End.closed refl i)
-follows c n h (result T.idle) d later w go = λ _. ap (λ (x : Connection). takeOf x .answer) (w .0) ∙ w .1
-follows c n h (result (T.handed r k)) d later w go = absurd w
-follows c n h (result (T.answered s k)) d later w go = let l = w .0 in go (w .1) (omega arith)
+follows-on n m h (refused number place) d later w go = λ i. absurd (not-idle (End.refusal number) refl i)
+follows-on n m h (result T.queued) d later w go = absurd w
+follows-on n m h (result T.closed) d later w go = λ i. absurd (not-idle End.closed refl i)
+follows-on n m h (result T.idle) d later w go = λ _. w
+follows-on n m h (result (T.handed r k)) d later w go = absurd w
+follows-on n m h (result (T.answered s k)) d later w go = let l = w .0 in go (w .1) (omega arith)
 
-serves : (n : ℕ) (c : Connection) → Sized c → c .control .waiting < n → Ends (serving n c)
+serves : (n : ℕ) (c : Connection) → Fit c → waits c < n → Ends (serving n c)
 unfolding serving
-serves zero c s h = absurd (omega (arith, h))
-serves (suc n) c s h = follows c n h (turnOf c .answer) (turnOf c .connection) (serving n (turnOf c .connection)) (turned c s) (λ z l. serves n (turnOf c .connection) z l)
+serves zero c f h = absurd (omega (arith, h))
+serves (suc n) c f h = follows-on n (waits c) h (turnOf c .answer) (turnOf c .connection) (serving n (turnOf c .connection)) (turned c f) (λ g l. serves n (turnOf c .connection) g l)
 
 -- ---- after an arrival
-abbrev Arrived : Answer Said → Connection → Type 0
-Arrived (refused number place) d = Unit {0}
-Arrived (result T.queued) d = (d .control .waiting < turns) × Sized d
-Arrived (result T.closed) d = Unit {0}
-Arrived (result T.idle) d = ⊥
-Arrived (result (T.handed r n)) d = ⊥
-Arrived (result (T.answered s n)) d = ⊥
-
-arrived : (c : Connection) (r : Request) → Sized c → Arrived (arriveOf c r .answer) (arriveOf c r .connection)
-arrived c r s = by-test (λ (a : After). Arrived (a .answer) (a .connection)) (keepsRules c) (λ _. goes (arriveT (kept c) r) (arrives (kept c) r)) (λ _. tt)
-  where
-    says : (w : Said) (u : Table) → Queued w u → Arrived (result w) (put c u)
-    says T.queued u h = (omega (arith, h), sized-put c u s)
-    says T.closed u h = tt
-    says T.idle u h = h
-    says (T.handed r n) u h = h
-    says (T.answered m n) u h = h
-
-    goes : (a : Answer Done) → Arrives a → Arrived (carried c a .answer) (carried c a .connection)
-    goes (result d) h = says (d .said) (d .table) h
-    goes (refused number place) h = tt
-
-starts : (x : Answer Said) (d : Connection) → Arrived x d → Ends (following x d (serving turns d))
+refused-ends : (number : ℕ) (w : Serving) → w .end ≡ End.refusal number → Ends w
 unfolding numberOf
-starts (refused number place) d w = λ i. absurd (not-idle (End.refusal number) refl i)
-starts (result T.queued) d w = serves turns d (w .1) (w .0)
-starts (result T.closed) d w = λ i. absurd (not-idle End.closed refl i)
-starts (result T.idle) d w = absurd w
-starts (result (T.handed r n)) d w = absurd w
-starts (result (T.answered s n)) d w = absurd w
+refused-ends number w e = λ i. absurd (not-idle (End.refusal number) refl (sym e ∙ i))
+
+starts : (x : Answer Said) (d : Connection) → Arrives x → Fit d → Ends (following x d (serving turns d))
+unfolding numberOf
+starts (refused number place) d w f = refused-ends number (following (refused number place) d (serving turns d)) refl
+starts (result T.queued) d w f = serves turns d f (omega (arith, f .keeps .long))
+starts (result T.closed) d w f = λ i. absurd (not-idle End.closed refl i)
+starts (result T.idle) d w f = absurd w
+starts (result (T.handed r n)) d w f = absurd w
+starts (result (T.answered s n)) d w f = absurd w
+
+begins : (c : Connection) (r : Request) → Sized c → Ends (following (arriveOf c r .answer) (arriveOf c r .connection) (serving turns (arriveOf c r .connection)))
+begins c r s = ⊎-elim fits breaks (either (keepsRules c))
+  where
+    fits : keepsRules c ≡ true → Ends (following (arriveOf c r .answer) (arriveOf c r .connection) (serving turns (arriveOf c r .connection)))
+    fits k =
+        let w : Stepped c (T.arrive r) = stepped c (rules-fit c s k) (T.arrive r) in
+        starts (arriveOf c r .answer) (arriveOf c r .connection) (subst Arrives (sym (w .answer)) (arrives (kept c) r)) (w .fit)
+
+    breaks : keepsRules c ≡ false → Ends (following (arriveOf c r .answer) (arriveOf c r .connection) (serving turns (arriveOf c r .connection)))
+    breaks k =
+        subst (λ (a : After). Ends (following (a .answer) (a .connection) (serving turns (a .connection)))) (sym (claim .checked c (T.arrive r) .broken k))
+        (refused-ends 24 (following (refused 24 0) c (serving turns c)) refl)
 
 pub idles : Claim
 unfolding served
-idles c r = record {
-  nothing-left = λ p q. starts (arriveOf c r .answer) (arriveOf c r .connection) (arrived c r (record { slots = p; numbers = q }));
-}
+idles c r = record { nothing-left = begins c r }

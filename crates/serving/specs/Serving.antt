@@ -2,21 +2,18 @@
 -- closed". Assumes nothing.
 use Prim.Native.Nat.{ℕ, zero, suc}
 use mathlib.Core.Bool.{cond}
-use mathlib.Core.List.{List, [], _∷_, map}
-use lib.ListN.{take}
+use mathlib.Core.List.{List, [], _∷_}
 use Rattle.refusal.specs.Answer.{Answer, result, refused, closesAfter}
 use Rattle.refusal.specs.Numbers.{numberOf}
-use Rattle.connection.specs.declared.record.Connection.{Connection}
+use Rattle.record.specs.declared.record.Connection.{Connection}
 use Rattle.states.specs.declared.request.Request.{Request}
 use Rattle.states.specs.declared.answers.Outcome.the-variants.{Success}
 use Rattle.states.specs.declared.answers.Summary.{Summary}
 use Rattle.states.specs.Table as T
 use Rattle.states.specs.Table.{Said}
-use Rattle.connection.specs.Record.{After, arriveOf, takeOf, reportOf, closeOf}
-use Rattle.serving.specs.declared.Sent.{Sent}
+use Rattle.record.specs.Calls.{After, arriveOf, takeOf, reportOf, closeOf}
 use Rattle.serving.specs.declared.Ending.{Ending}
 use Rattle.serving.specs.declared.Ending.the-variants as E
-use Rattle.serving.specs.declared.Served.{Served}
 
 -- nothing is left to do until the next request, the connection has closed, or a call was refused with this number
 pub data End : Type 0 where
@@ -89,9 +86,3 @@ abbrev pub endOf : Ending → End
 endOf E.Idle = idle
 endOf E.Closed = closed
 endOf (E.Refused why) = refusal (numberOf why)
-
-abbrev pub summaryIn : Sent → Summary
-summaryIn s = s .summary
-
-abbrev pub servedBy : Served → Serving
-servedBy r = record { summaries = map summaryIn (take (r .count) (r .sent)); end = endOf (r .ending); connection = r .connection }

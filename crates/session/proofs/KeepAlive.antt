@@ -16,9 +16,8 @@ use Rattle.bolt.specs.Limits.{mostBytes}
 use Rattle.framing.specs.Reading.{frameOf}
 use Rattle.session.specs.declared.phase.Phase.{Phase}
 use Rattle.session.specs.declared.phase.Phase.the-variants.{Open}
-use Rattle.session.specs.declared.phase.Session.{Session}
 use Rattle.session.specs.Receiving.{Brought, nothing, refusal, framed, broughtIn}
-use Rattle.session.specs.Session.{replying, answering, inPhase, nextOf}
+use Rattle.session.specs.Session.{Session, replying, answering, inPhase, nextOf}
 use Rattle.session.specs.KeepAlive.{unmoved, empty, Claim}
 
 module _ (s : Session) (v : Version) (begun : s .phase ≡ Open v) where

@@ -1,6 +1,6 @@
 pub mod Receiving
-pub mod Replies
 pub mod Writing
-pub mod KeepAlive
-pub mod Fitting
 pub mod Room
+pub mod Sending
+pub mod Replies
+pub mod KeepAlive

@@ -12,19 +12,19 @@ use Rattle.handshake.specs.Version.{bytesOf}
 use Rattle.bolt.specs.Limits.{mostBytes}
 use Rattle.summaries.proofs.SummaryForms.{sized}
 use Rattle.states.specs.declared.answers.Summary.{Summary}
-use Rattle.connection.specs.declared.record.Connection.{Connection}
+use Rattle.record.specs.declared.record.Connection.{Connection}
 use Rattle.states.specs.Table as T
 use Rattle.states.specs.Table.{Said}
-use Rattle.connection.specs.Record.{arriveOf}
+use Rattle.record.specs.Calls.{arriveOf}
 use Rattle.session.specs.declared.phase.Phase.{Phase}
 use Rattle.session.specs.declared.phase.Phase.the-variants.{Awaiting, Open}
-use Rattle.session.specs.declared.phase.Session.{Session}
 use Rattle.session.specs.Text.{lineText, text}
 use Rattle.serving.specs.Serving.{End, idle, Serving, turnOf, following, serving, turns, served}
 use Rattle.session.specs.Receiving as Brought
 use Rattle.session.specs.Receiving.{handshakeIn, broughtIn}
-use Rattle.session.specs.Session.{summaryLine, endLines, replying, zeros, greeting, answering, inPhase, nextOf, written, handling}
+use Rattle.session.specs.Session.{Session, summaryLine, endLines, replying, zeros, greeting, answering, inPhase, nextOf, written, handling}
 use Rattle.session.specs.Room.{enough, Claim}
+use Rattle.session.specs.Private.Replies.{sent}
 use Rattle.session.proofs.Writing.{text-append, length-one, length-none, summary-length}
 
 -- ---- no more summaries than turns
@@ -53,6 +53,10 @@ unfolding text
 summaries-short [] = omega arith
 summaries-short (s ∷ l) =
     omega (arith, length-append (lineText (summaryLine s)) (text (map summaryLine l)), summary-length s, sized s .high, summaries-short l)
+
+-- of the turns that follow an arrival
+pub sent-short : (c : Connection) → length (sent (serving turns c)) ≤ enough
+sent-short c = omega (arith, summaries-short (serving turns c .summaries), serving-few turns c)
 
 end-short : (e : End) → length (text (endLines e)) ≤ 3
 end-short idle = omega (arith, length-none)

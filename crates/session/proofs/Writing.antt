@@ -1,12 +1,10 @@
 -- Laws of the lines that are written. Assumes nothing.
 use mathlib.Core.Path.{_≡_, refl, sym, ap, _∙_}
-use mathlib.Core.List.{List, [], _∷_, _++_, map, append-assoc, append-nil}
-use Prim.Native.Nat.{ℕ, _+_, _-_, _*_, _≤_, _<_}
-use native.Mathlib.Nat.{zero-add}
-use native.Mathlib.Numerals.{add-one}
+use mathlib.Core.List.{List, [], _∷_, _++_, append-assoc, append-nil}
+use Prim.Native.Nat.{ℕ, _+_, _-_, _*_, _≤_}
 use native.Mathlib.Omega.{arith}
-use lib.ListN.{length, getD, take, drop, set, length-append, length-drop, drop-of-length-le}
-use lib.Seq.{sets, sets-eq, length-sets, drop-cons, drop-drop, length-take-le, getD-take, take-at, take-length}
+use lib.ListN.{length, take, drop, set, length-append, length-drop, drop-of-length-le}
+use lib.Seq.{sets, sets-eq, drop-drop, length-take-le, take-at, take-length}
 use Rattle.slices.specs.Parts.{front}
 use Rattle.slices.proofs.Parts.{sets-append}
 use Rattle.refusal.specs.Answer.{Answer, result, refused, counted, left}
@@ -24,17 +22,9 @@ use Rattle.packing.proofs.Packing.{Packs, packed-there}
 use Rattle.summaries.specs.Summaries.{packSummary}
 use Rattle.summaries.proofs.SummaryForms.{sized}
 use Rattle.states.specs.declared.answers.Summary.{Summary}
-use Rattle.serving.specs.declared.Sent.{Sent}
-use Rattle.session.specs.declared.reply.Reply.{Reply}
 use Rattle.session.specs.Text.{lineText, text}
-use Rattle.serving.specs.Serving.{endOf, summaryIn}
 use Rattle.session.proofs.Receiving.{from-start}
-use Rattle.session.specs.Session.{summaryLine, endLines, replying, written}
-use Rattle.session.specs.Private.Replies.{openingLines, replied}
-
--- what is stored does not change how long a buffer is
-pub put-size : (d e : List ℕ) (at : ℕ) (v : List ℕ) → e ≡ sets d at v → length e ≡ length d
-put-size d e at v p = ap length p ∙ length-sets d at v
+use Rattle.session.specs.Session.{summaryLine}
 
 -- ---- one line
 pub length-line : (v : List ℕ) → length (lineText v) ≡ 2 * length v + 1
@@ -74,10 +64,6 @@ text-one v = append-nil (lineText v)
 
 pub length-one : (v : List ℕ) → length (text (v ∷ [])) ≡ 2 * length v + 1
 length-one v = ap length (text-one v) ∙ length-line v
-
-pub text-none : text [] ≡ []
-unfolding text
-text-none = refl
 
 pub length-none : length (text []) ≡ 0
 unfolding text
@@ -141,139 +127,12 @@ module _ (s : Summary) (m d e : List ℕ) (r : Written) (is : m ≡ packSummary 
     pub chunk-bytes : take (n - 0) e ≡ summaryLine s
     chunk-bytes = from-start n e ∙ ap (take n) (w ∙ ap (λ (a : Answer (List ℕ)). left front a d) is-written) ∙ take-at (summaryLine s) (drop (length (summaryLine s)) d) n (sym chunk-size)
 
--- ---- the summaries' lines
--- of the first `count`, those from the i-th on
-abbrev pub linesFrom : List Sent → ℕ → ℕ → List ℕ
-linesFrom sent count i = text (map summaryLine (map summaryIn (drop i (take count sent))))
-
-abbrev lineAt : List Sent → ℕ → Sent → List ℕ
-lineAt sent i x = lineText (summaryLine (getD sent i x .summary))
-
-module _ (sent : List Sent) (count i : ℕ) (all : count ≤ length sent) where
-  lines-none : count ≤ i → linesFrom sent count i ≡ []
-  unfolding text
-  lines-none h =
-      let l : length (take count sent) ≤ i = omega (arith, length-take-le count sent all) in
-      ap (λ (l : List Sent). text (map summaryLine (map summaryIn l))) (drop-of-length-le (take count sent) l)
-
-  module _ (x : Sent) (more : i < count) where
-    lines-next : linesFrom sent count i ≡ lineAt sent i x ++ linesFrom sent count (i + 1)
-    unfolding text
-    lines-next =
-        ap (λ (l : List Sent). text (map summaryLine (map summaryIn l))) (drop-cons (take count sent) i x (omega (arith, length-take-le count sent all)))
-        ∙ (λ j. lineText (summaryLine (getD-take count sent i x more j .summary)) ++ linesFrom sent count (sym (add-one i) j))
-
-    lines-sizes : length (linesFrom sent count i) ≡ length (lineAt sent i x) + length (linesFrom sent count (i + 1))
-    lines-sizes = ap length lines-next ∙ length-append (lineAt sent i x) (linesFrom sent count (i + 1))
-
--- the lines before the i-th are written, and the rest is to come
-pub record Puts (sent : List Sent) (count : ℕ) (d₀ d : List ℕ) (at to i : ℕ) : Type 0 where
-  pub all : count ≤ length sent
-  pub inside : i ≤ count
-  pub size : length d ≡ length d₀
-  pub holds : sets d to (linesFrom sent count i) ≡ sets d₀ at (linesFrom sent count 0)
-  pub ends : to + length (linesFrom sent count i) ≡ at + length (linesFrom sent count 0)
-
-pub puts-none : (sent : List Sent) (count : ℕ) (d : List ℕ) (at : ℕ) → count ≤ length sent → Puts sent count d d at at 0
-puts-none sent count d at all = record { all = all; inside = omega arith; size = refl; holds = refl; ends = refl }
-
-module _ {sent : List Sent} {count : ℕ} {d₀ d : List ℕ} {at to i : ℕ} (w : Puts sent count d₀ d at to i) where
-  module _ (x : Sent) (more : i < count) where
-    pub puts-fits : at + length (linesFrom sent count 0) ≤ length d₀ → to + length (lineAt sent i x) ≤ length d
-    puts-fits room = omega (arith, w .ends, w .size, lines-sizes sent count i (w .all) x more)
-
-    pub puts-next : (e : List ℕ) (n : ℕ) → e ≡ sets d to (lineAt sent i x) → n ≡ to + length (lineAt sent i x) → Puts sent count d₀ e at n (i + 1)
-    puts-next e n p q =
-        let v = lineAt sent i x in
-        record {
-          all = w .all;
-          inside = omega arith;
-          size = ap length p ∙ length-sets d to v ∙ w .size;
-          holds = (λ j. sets (p j) (q j) (linesFrom sent count (i + 1))) ∙ sets-append v (linesFrom sent count (i + 1)) d to
-              ∙ ap (sets d to) (sym (lines-next sent count i (w .all) x more)) ∙ w .holds;
-          ends = omega (arith, w .ends, lines-sizes sent count i (w .all) x more, q);
-        }
-
-  pub puts-done : count ≤ i → (to ≡ at + length (linesFrom sent count 0)) × (d ≡ sets d₀ at (linesFrom sent count 0))
-  puts-done h =
-      let z = lines-none sent count i (w .all) h in
-      (omega (arith, w .ends, ap length z), sym (ap (sets d to) z) ∙ w .holds)
-
--- ---- how many characters they have
+-- ---- how long a summary's line is
 pub summary-length : (s : Summary) → length (lineText (summaryLine s)) ≡ 2 * (length (packSummary s) + 4) + 1
 summary-length s =
     length-line (summaryLine s)
     ∙ ap (λ (n : ℕ). 2 * n + 1) (length-append (chunkOf (packSummary s)) lastChunk ∙ ap (λ (n : ℕ). n + 2) (length-chunk (packSummary s)) ∙ omega arith)
 
--- the lines before the i-th are counted
-pub record Counts (sent : List Sent) (count sum i : ℕ) : Type 0 where
-  pub all : count ≤ length sent
-  pub inside : i ≤ count
-  pub few : sum ≤ 200 * i
-  pub total : sum + length (linesFrom sent count i) ≡ length (linesFrom sent count 0)
-
-pub counts-none : (sent : List Sent) (count : ℕ) → count ≤ length sent → Counts sent count 0 0
-counts-none sent count all = record { all = all; inside = omega arith; few = omega arith; total = omega arith }
-
--- a summary is short
-pub summary-short : (s : Summary) (k : ℕ) → k ≡ length (packSummary s) → k ≤ 60
-summary-short s k e = omega (arith, e, sized s .high)
-
-module _ {sent : List Sent} {count sum i : ℕ} (w : Counts sent count sum i) where
-  pub counts-next : (x : Sent) → i < count → (k : ℕ) → k ≡ length (packSummary (getD sent i x .summary)) → Counts sent count (sum + (2 * (k + 4) + 1)) (i + 1)
-  counts-next x more k p =
-      let s = getD sent i x .summary in
-      record {
-        all = w .all;
-        inside = omega arith;
-        few = omega (arith, w .few, summary-short s k p);
-        total = omega (arith, w .total, lines-sizes sent count i (w .all) x more, summary-length s, p);
-      }
-
-  pub counts-done : count ≤ i → sum ≡ length (linesFrom sent count 0)
-  counts-done h = omega (arith, w .total, ap length (lines-none sent count i (w .all) h))
-
--- ---- a reply
-module _ (r : Reply) where
-  abbrev pub opens : List ℕ
-  opens = text (openingLines (r .opening))
-
-  abbrev pub sums : List ℕ
-  sums = linesFrom (r .served .sent) (r .served .count) 0
-
-  abbrev pub ends : List ℕ
-  ends = text (endLines (endOf (r .served .ending)))
-
-  parts : written (replied r) ≡ opens ++ (sums ++ ends)
-  unfolding replying
-  parts =
-      text-append (openingLines (r .opening)) (map summaryLine (map summaryIn (take (r .served .count) (r .served .sent))) ++ endLines (endOf (r .served .ending)))
-      ∙ ap (λ (l : List ℕ). opens ++ l) (text-append (map summaryLine (map summaryIn (take (r .served .count) (r .served .sent)))) (endLines (endOf (r .served .ending))))
-
-  pub reply-sizes : length (written (replied r)) ≡ length opens + length sums + length ends
-  reply-sizes = ap length parts ∙ length-append opens (sums ++ ends) ∙ ap (λ (n : ℕ). length opens + n) (length-append sums ends) ∙ omega arith
-
-  pub reply-put : (d : List ℕ) → length (written (replied r)) ≤ length d → sets (sets (sets d 0 opens) (length opens) sums) (length opens + length sums) ends ≡ front (written (replied r)) d
-  reply-put d room =
-      let n : length opens + length sums ≡ length (opens ++ sums) = sym (length-append opens sums) in
-      let a : sets (sets d 0 opens) (length opens) sums ≡ sets d 0 (opens ++ sums) = ap (λ (k : ℕ). sets (sets d 0 opens) k sums) (sym (zero-add (length opens))) ∙ sets-append opens sums d 0 in
-      (λ i. sets (a i) (n i) ends) ∙ ap (λ (k : ℕ). sets (sets d 0 (opens ++ sums)) k ends) (sym (zero-add (length (opens ++ sums)))) ∙ sets-append (opens ++ sums) ends d 0
-      ∙ ap (sets d 0) (append-assoc opens sums ends ∙ sym parts) ∙ sets-eq (written (replied r)) d 0 (omega (arith, room)) ∙ ap (λ (k : ℕ). written (replied r) ++ drop k d) (zero-add (length (written (replied r))))
-
--- ---- one line, or none, of lines that are told by a match
-pub none-put : (w d : List ℕ) (at : ℕ) → w ≡ [] → (at ≡ at + length w) × (d ≡ sets d at w)
-none-put w d at e = (omega (arith, ap length e), sym (ap (sets d at) e))
-
+-- ---- a line told by other words
 pub one-put : (w v d e : List ℕ) (at n : ℕ) → w ≡ lineText v → n ≡ at + length (lineText v) → e ≡ sets d at (lineText v) → (n ≡ at + length w) × (e ≡ sets d at w)
 one-put w v d e at n p q r = (q ∙ ap (λ (x : List ℕ). at + length x) (sym p), r ∙ ap (sets d at) (sym p))
-
--- at the front
-pub at-front : (w d e : List ℕ) (n : ℕ) → (n ≡ 0 + length w) × (e ≡ sets d 0 w) → (n ≡ length w) × (e ≡ sets d 0 w)
-at-front w d e n p = (p .0 ∙ zero-add (length w), p .1)
-
--- a reply, written part after part
-pub put-all : (r : Reply) (d : List ℕ) → length (written (replied r)) ≤ length d → (first last : ℕ) (a b e : List ℕ) → first ≡ length (opens r) → a ≡ sets d 0 (opens r)
-    → last ≡ first + length (sums r) → b ≡ sets a first (sums r) → e ≡ sets b last (ends r) → e ≡ front (written (replied r)) d
-put-all r d room first last a b e f p l q z =
-    let y : last ≡ length (opens r) + length (sums r) = l ∙ ap (λ (n : ℕ). n + length (sums r)) f in
-    z ∙ (λ i. sets ((q ∙ (λ j. sets (p j) (f j) (sums r))) i) (y i) (ends r)) ∙ reply-put r d room

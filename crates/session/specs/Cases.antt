@@ -24,7 +24,7 @@ use Rattle.requests.specs.Requests.{hello, transaction, batch, run, tagged}
 use Rattle.states.specs.Appendix.{newState, handsOver, handedSomewhere, works}
 use Rattle.states.specs.Table.{ignores, namesOpen, isFull, turnOf as turnIn, successStreams, successSummary}
 use Rattle.states.specs.Rules.{waitingRule, numbersRule, mayBeInFlight, countsRule, stateRules, rules}
-use Rattle.connection.specs.Record.{keepsRules}
+use Rattle.record.specs.Record.{bounded, named, keepsRules}
 use Rattle.session.specs.Text.{lineText, text}
 use Rattle.serving.specs.Serving.{afterRefusal, turnOf, serving, served}
 use Rattle.session.specs.Receiving.{handshakeIn, Brought, refusal, broughtIn}
@@ -51,7 +51,7 @@ sent =
     ∷ []
 
 pub one-run : runOf fresh (map toDigits come) ≡ text sent
-unfolding leadingZeros bigEndian bytesOf twos unsignedAt utf8 sequencesFrom sequence completes isDigit valueOf digitOf allDigits isLine toBytes toDigits among agrees chosen negotiated feed frameOf markerOf lookup messageOf valueIn valueAt items entries keyAt keyExtentAt extentAt leafExtent containerExtent leafAt leafValue same repeats count countEntries pack packItems packEntries packInteger sizeHeader narrowest doublings under hello transaction batch run tagged newState ignores handsOver handedSomewhere namesOpen isFull turnIn successStreams successSummary waitingRule numbersRule works mayBeInFlight countsRule stateRules rules keepsRules lineText text afterRefusal turnOf serving served handshakeIn broughtIn replying nextOf runOf
+unfolding leadingZeros bigEndian bytesOf twos unsignedAt utf8 sequencesFrom sequence completes isDigit valueOf digitOf allDigits isLine toBytes toDigits among agrees chosen negotiated feed frameOf markerOf lookup messageOf valueIn valueAt items entries keyAt keyExtentAt extentAt leafExtent containerExtent leafAt leafValue same repeats count countEntries pack packItems packEntries packInteger sizeHeader narrowest doublings under hello transaction batch run tagged newState ignores handsOver handedSomewhere namesOpen isFull turnIn successStreams successSummary waitingRule numbersRule works mayBeInFlight countsRule stateRules rules bounded named keepsRules lineText text afterRefusal turnOf serving served handshakeIn broughtIn replying nextOf runOf
 one-run = refl
 
 -- "Checked in order: length and digits, handshake or frame, bytes after it (23), request": of two faults in a line the earlier one counts. One

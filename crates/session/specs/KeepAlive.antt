@@ -13,9 +13,8 @@ use Rattle.framing.specs.Feed.{keep-alive}
 use Rattle.bolt.specs.Limits.{mostBytes}
 use Rattle.framing.specs.Reading.{frameOf}
 use Rattle.session.specs.declared.phase.Phase.the-variants.{Open}
-use Rattle.session.specs.declared.phase.Session.{Session}
 use Rattle.session.specs.Receiving.{nothing, broughtIn}
-use Rattle.session.specs.Session.{Next, nextOf}
+use Rattle.session.specs.Session.{Session, Next, nextOf}
 
 -- nothing is written, and the run goes on with the same session
 abbrev pub unmoved : Session → Next

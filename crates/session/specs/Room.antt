@@ -4,8 +4,7 @@ use mathlib.Core.Path.{_≡_}
 use Prim.Native.Nat.{ℕ, _≤_}
 use lib.ListN.{length}
 use Rattle.refusal.specs.Answer.{result}
-use Rattle.session.specs.declared.phase.Session.{Session}
-use Rattle.session.specs.Session.{nextOf, written, handling}
+use Rattle.session.specs.Session.{Session, nextOf, written, handling}
 
 abbrev pub enough : ℕ
 enough = 4400

@@ -3,6 +3,7 @@ use Prim.Native.Nat.{ℕ}
 use mathlib.Core.Bool.{Bool, true, false, cond}
 use mathlib.Core.List.{List, [], _∷_, _++_, map}
 use lib.Dec.{eqb, ltb}
+use lib.IntN.{ℤ}
 use lib.ListN.{length}
 use Rattle.slices.specs.Parts.{front}
 use Rattle.refusal.specs.Answer.{Answer, result, refused}
@@ -11,18 +12,23 @@ use Rattle.handshake.specs.Version.{bytesOf}
 use Rattle.bolt.specs.Limits.{mostBytes}
 use Rattle.framing.specs.Chunking.{chunkOf, end as lastChunk}
 use Rattle.summaries.specs.Summaries.{packSummary}
-use Rattle.connection.specs.declared.record.Connection.{Connection}
+use Rattle.record.specs.declared.record.Connection.{Connection}
 use Rattle.states.specs.declared.answers.Summary.{Summary}
-use Rattle.connection.specs.Record.{fresh as freshRecord}
+use Rattle.record.specs.Record.{joined, fresh as freshRecord}
 use Rattle.session.specs.declared.phase.Phase.{Phase}
 use Rattle.session.specs.declared.phase.Phase.the-variants.{Awaiting, Open}
-use Rattle.session.specs.declared.phase.Session.{Session}
+use Rattle.session.specs.declared.phase.Session.{Session as Held}
 use Rattle.session.specs.declared.line.Handled.{Handled}
 use Rattle.session.specs.declared.line.Handled.the-variants as H
 use Rattle.session.specs.Text.{text}
 use Rattle.serving.specs.Serving.{End, idle, closed, refusal, Serving, stopped, refusing, served}
 use Rattle.session.specs.Receiving as Brought
 use Rattle.session.specs.Receiving.{handshakeIn, broughtIn}
+
+-- how far it has come, and the record of its connection
+pub record Session : Type 0 where
+  pub phase : Phase
+  pub connection : Connection
 
 -- nothing has come yet
 abbrev pub fresh : Session
@@ -94,6 +100,10 @@ unfoldable pub handling : ℕ → Session → List ℕ → Answer Next
 handling room s line = cond (ltb room (length (written (nextOf s line)))) (refused 21 0) (result (nextOf s line))
 
 -- ---- what the code answers, in these terms
+-- what it holds of a session, and the record's arrays
+abbrev pub sessionIn : Held → List ℕ → List ℕ → List ℤ → List ℤ → Session
+sessionIn s streams kinds counts qids = record { phase = s .phase; connection = joined (s .control) streams kinds counts qids }
+
 pub record Told : Type 0 where
   pub goesOn : Bool
   pub characters : ℕ

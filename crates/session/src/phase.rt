@@ -1,9 +1,9 @@
-// A session: how far it has come, and the record of its connection.
+// A session: how far it has come, and the control of its connection's record. The record's arrays are lent beside it.
 ghost use mathlib.Core.Path.{_≡_};
-ghost use Rattle.session.specs.Session.{fresh as freshSession};
-use connection::record;
-use connection::record::Connection;
+ghost use Rattle.record.specs.Record.{fresh as freshRecord};
+ghost use Rattle.session.specs.declared.phase.Phase.the-variants as P;
 use handshake::version::Version;
+use record::record::Control;
 
 pub enum Phase {
     // The next line is the handshake.
@@ -14,16 +14,17 @@ pub enum Phase {
 
 pub struct Session {
     pub phase: Phase,
-    pub connection: Connection,
+    pub control: Control,
 }
 
-// A session to which nothing has come yet.
+// A session to which nothing has come yet. Its record's arrays are all zeros.
 pub fn fresh() -> Session
-    ensures { λ r. ⌜ r ≡ freshSession ⌝ }
+    ensures { λ r. ⌜ r ≡ record { phase = P.Awaiting; control = freshRecord .control } ⌝ }
 {
-    let connection = record::fresh();
+    let connection = record::record::fresh();
+    let control = connection.control;
     Session {
         phase: Phase::Awaiting,
-        connection: connection,
+        control: control,
     }
 }

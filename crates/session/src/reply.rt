@@ -1,104 +1,89 @@
-// What one more line leads to, before anything is written: all that is to be sent, why there is no more, and the session after it.
+// What one more line leads to, written as it comes, but for the refusal at its end.
 ghost use mathlib.Core.Path.{_≡_};
 ghost use Prim.Native.Nat.{_≤_};
-ghost use Rattle.refusal.specs.Numbers.{numberOf};
-ghost use Rattle.refusal.specs.Answer.{refused};
-ghost use Rattle.bolt.specs.Limits.{mostBytes};
-ghost use Rattle.session.specs.Receiving.{handshakeIn, broughtIn};
-ghost use Rattle.serving.specs.Serving.{servedBy};
-ghost use Rattle.session.specs.Session.{greeting, answering, nextOf};
-ghost use Rattle.session.specs.Private.Replies.{replied};
+ghost use lib.ListN.{length};
+ghost use Rattle.record.specs.Record.{joined};
+ghost use Rattle.session.specs.Room.{enough};
+ghost use Rattle.session.specs.Receiving.{handshakeIn};
+ghost use Rattle.session.specs.Session.{sessionIn, nextOf};
+ghost use Rattle.session.specs.Private.Replies.{Greets, Replies};
 use super::phase::Phase;
 use super::phase::Session;
 use super::receive;
 use super::receive::Received;
-use connection::record::Connection;
+use super::serve;
+use super::write;
 use handshake::negotiation::Negotiation;
-use handshake::version::Version;
-use refusal::Refusal;
-use serving;
+use record::record::Control;
 use serving::Ending;
-use serving::Served;
 
-// What the handshake sends: the version agreed on, or four zeros where there is none in common.
-pub enum Opening {
-    Nothing,
-    Agreed(Version),
-    NothingInCommon,
-}
-
+// The session's phase and control as the line left them, why it ended, and where what was written ends. What a refusal leads to is still to
+// do.
 pub struct Reply {
     pub phase: Phase,
-    pub opening: Opening,
-    pub served: Served,
+    pub control: Control,
+    pub ending: Ending,
+    pub end: usize,
 }
 
-// A handshake that is refused.
-fn turn_away(connection: Connection, why: Refusal) -> Reply
-    ensures told { λ r. ⌜ replied r ≡ greeting connection (refused (numberOf why) 0) ⌝ }
-    ensures few { λ r. ⌜ r .served .count ≤ 33 ⌝ }
+fn replied(phase: Phase, control: Control, ending: Ending, end: usize) -> Reply
+    ensures { λ r. ⌜ r ≡ record { phase = phase; control = control; ending = ending; end = end } ⌝ }
 {
-    let served = serving::refuse(connection, why);
-    if why.number() == 3 {
-        return Reply {
-            phase: Phase::Awaiting,
-            opening: Opening::NothingInCommon,
-            served: served,
-        };
-    }
     Reply {
-        phase: Phase::Awaiting,
-        opening: Opening::Nothing,
-        served: served,
+        phase: phase,
+        control: control,
+        ending: ending,
+        end: end,
     }
 }
 
-// The line of the handshake.
-fn greet(connection: Connection, line: &[u8]) -> Reply
-    ensures told { λ r. ⌜ replied r ≡ greeting connection (handshakeIn (now (line .entry))) ⌝ }
-    ensures few { λ r. ⌜ r .served .count ≤ 33 ⌝ }
+// The line of the handshake: the version agreed on is sent, or four zeros where there is none in common.
+fn greet(control: Control, line: &[u8], out: &mut [u8]) -> Reply
+    requires { ⌜ enough ≤ length (now out) ⌝ }
+    ensures { λ r. ⌜ Greets control (handshakeIn (now (line .entry))) r (now (out .entry)) (now (out .exit)) ⌝ }
 {
     match receive::receive_handshake(line) {
         Negotiation::Agreed(version) => {
-            let served = serving::stop(connection, Ending::Idle);
-            Reply {
-                phase: Phase::Open(version),
-                opening: Opening::Agreed(version),
-                served: served,
-            }
+            let end = write::put_line(&version.to_bytes(), out, 0);
+            replied(Phase::Open(version), control, Ending::Idle, end)
         }
-        Negotiation::Refused(why) => turn_away(connection, why),
+        Negotiation::Refused(why) => {
+            if why.number() == 3 {
+                let zeros = [0u8; 4];
+                let end = write::put_line(&zeros, out, 0);
+                return replied(Phase::Awaiting, control, Ending::Refused(why), end);
+            }
+            replied(Phase::Awaiting, control, Ending::Refused(why), 0)
+        }
     }
 }
 
-// A line with a frame.
-fn answer(version: Version, connection: Connection, line: &[u8]) -> Served
-    ensures told { λ r. ⌜ servedBy r ≡ answering connection (broughtIn mostBytes (version .minor) (now (line .entry))) ⌝ }
-    ensures few { λ r. ⌜ r .count ≤ 33 ⌝ }
-{
-    match receive::receive(version, line) {
-        Received::KeepAlive => serving::stop(connection, Ending::Idle),
-        Received::Request(request) => serving::request(connection, request),
-        Received::Refused(why) => serving::refuse(connection, why),
-    }
-}
-
-// What one more line leads to.
-pub fn reply_to(session: Session, line: &[u8]) -> Reply
-    ensures told { λ r. ⌜ replied r ≡ nextOf session (now (line .entry)) ⌝ }
-    ensures few { λ r. ⌜ r .served .count ≤ 33 ⌝ }
+// What one more line leads to: the handshake first, then one frame a line.
+pub fn reply_to(
+    session: Session,
+    streams: &mut [u64; 8],
+    kinds: &mut [u8; 32],
+    counts: &mut [i64; 32],
+    qids: &mut [i64; 32],
+    line: &[u8],
+    out: &mut [u8],
+) -> Reply
+    requires { ⌜ enough ≤ length (now out) ⌝ }
+    ensures { λ r. ⌜ Replies (nextOf (sessionIn session (now (streams .entry)) (now (kinds .entry)) (now (counts .entry)) (now (qids .entry))) (now (line .entry))) r (joined (r .control) (now (streams .exit)) (now (kinds .exit)) (now (counts .exit)) (now (qids .exit))) (now (out .entry)) (now (out .exit)) ⌝ }
 {
     let phase = session.phase;
-    let connection = session.connection;
-    match phase {
-        Phase::Awaiting => greet(connection, line),
-        Phase::Open(version) => {
-            let served = answer(version, connection, line);
-            Reply {
-                phase: Phase::Open(version),
-                opening: Opening::Nothing,
-                served: served,
-            }
+    let control = session.control;
+    let Phase::Open(version) = phase else {
+        return greet(control, line, out);
+    };
+    match receive::receive(version, line) {
+        Received::KeepAlive => replied(phase, control, Ending::Idle, 0),
+        Received::Request(request) => {
+            let served = serve::request(control, streams, kinds, counts, qids, request, out);
+            let after = served.control;
+            let ending = served.ending;
+            replied(phase, after, ending, served.end)
         }
+        Received::Refused(why) => replied(phase, control, Ending::Refused(why), 0),
     }
 }

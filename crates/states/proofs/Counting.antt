@@ -36,7 +36,7 @@ use Rattle.states.proofs.Rows.{hands-running}
 use Rattle.states.proofs.Turns.{handed-facts}
 
 -- ---- a request in flight is the first that waits, and the one handed over
-data Awaits (t : Table) (was : Option Request) : Type 0 where
+pub data Awaits (t : Table) (was : Option Request) : Type 0 where
   idles : t .inFlight ≡ false → Awaits t was
   flies : (r : Request) (ws : List Request) → t .waiting ≡ r ∷ ws → was ≡ some r → Awaits t was
 
@@ -51,11 +51,11 @@ awaits-more t was (flies q ws e w) s o r = flies q (ws ++ (r ∷ [])) (ap (λ (l
 
 -- ---- what a step of the table does to the queue: it sends no summary, or one for the first that waits
 -- what it hands over is the first
-data Hands (t u : Table) (s : Answer Said) : Type 0 where
+pub data Hands (t u : Table) (s : Answer Said) : Type 0 where
   none-handed : handedBy s ≡ [] → (inState (u .state) Defunct ≡ false → u .inFlight ≡ t .inFlight) → Hands t u s
   first-handed : (r : Request) (ws : List Request) → t .waiting ≡ r ∷ ws → handedBy s ≡ record { number = t .sent + 1; request = some r } ∷ [] → t .inFlight ≡ false → u .inFlight ≡ true → Hands t u s
 
-data Moved (t : Table) (was : Option Request) (x : Call) (u : Table) (s : Answer Said) : Type 0 where
+pub data Moved (t : Table) (was : Option Request) (x : Call) (u : Table) (s : Answer Said) : Type 0 where
   quiet : summaryBy (answeredBy was t x) s ≡ [] → Hands t u s → Awaits u (awaited was s) → u .sent ≡ t .sent → u .accepted ≡ t .accepted + length (acceptedBy x s)
       → (inState (u .state) Defunct ≡ false → t .waiting ++ acceptedBy x s ≡ u .waiting) → Moved t was x u s
   spoke : (r : Request) (ws : List Request) → t .waiting ≡ r ∷ ws → summaryBy (answeredBy was t x) s ≡ record { number = t .sent + 1; request = some r } ∷ [] → handedBy s ≡ [] → u .inFlight ≡ false → Awaits u (awaited was s)
@@ -145,7 +145,7 @@ module _ (t : Table) (was : Option Request) (w : Awaits t was) where
   moved-outcome inflight alive o [] e = refuses (T.report o) 19 0
   moved-outcome inflight alive o (r ∷ ws) e = by-test (Moves (T.report o)) (fitting o r) (λ _. moved-reported r ws e o inflight alive) (λ _. refuses (T.report o) 19 0)
 
-  moved : (x : Call) → Moves x (step t x)
+  pub moved : (x : Call) → Moves x (step t x)
   moved (T.arrive r) = moved-arrive r
   moved T.take =
       by-test (Moves T.take) (inState (t .state) Defunct) (λ _. refuses T.take 18 0)
@@ -197,7 +197,7 @@ module _ (t : Table) where
       (λ _. by-test (Rightly t (T.report o)) (t .inFlight) (λ _. rightly-outcome o (t .waiting)) (λ _. refl))
   rightly T.close = by-test (Rightly t T.close) (inState (t .state) Defunct) (λ _. refl) (λ _. refl)
 
-either : (b : Bool) → (b ≡ true) ⊎ (b ≡ false)
+pub either : (b : Bool) → (b ≡ true) ⊎ (b ≡ false)
 either true = inl refl
 either false = inr refl
 

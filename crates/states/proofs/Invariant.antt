@@ -6,7 +6,7 @@ use Prim.Native.Nat.{ℕ, suc, _+_, _-_, _<_, _≤_}
 use native.Mathlib.Omega.{arith}
 use lib.Dec.{eqb, ltb, leb}
 use lib.ListN.{length, length-append}
-use borrow.Author.Tests.{leb-false, ltb-true, le-leb, lt-ltb, eq-eqb, ne-eqb}
+use borrow.Author.Tests.{leb-true, leb-false, ltb-true, eqb-true, le-leb, lt-ltb, eq-eqb, ne-eqb}
 use Rattle.refusal.specs.Answer.{Answer}
 use Rattle.states.specs.declared.state.State.{State}
 use Rattle.states.specs.declared.state.State.the-variants.{Connected, Ready, Streaming, TxReady, TxStreaming, Failed, Interrupted, Defunct}
@@ -19,10 +19,10 @@ use Rattle.states.specs.Requests.{kindOf, inState, inTransaction, is, fe
 use Rattle.bolt.specs.Requests.{HELLO, RESET, RUN, BEGIN}
 use Rattle.states.specs.Appendix.{success, last, last-of-several, newState, handsOver, works}
 use Rattle.states.specs.Table.{Open, Table, Call, Done, arrive, take, report, close, start, step, noneOpen, oneMore, oneLess, has, without, isFull, namesOpen, defunct, enqueued, accept, arriveT, ignores, turnOf, counted, taken, takeFirst, takeT, response, successStreams, streamsAfter, settled, reported, fitting, reportFirst, reportT, closeT}
-use Rattle.states.specs.Rules.{waitingRule, numbersRule, distinctBelow, isHanded, mayBeInFlight, firstInFlight, countsRule, stateRules, rules}
+use Rattle.states.specs.Rules.{waitingRule, numbersRule, distinctBelow, openRule, resetRule, isHanded, mayBeInFlight, firstInFlight, flightRule, countsRule, stateRules, rules}
 use Rattle.states.specs.Events.{leftBy}
 use Rattle.states.specs.Private.Outcomes.{lastState}
-use Rattle.states.proofs.Bools.{by-test, or-left, or-right, and-left, and-right, and-both, not-yes, not-no, alike-same}
+use Rattle.states.proofs.Bools.{by-test, or-left, or-right, and-left, and-right, and-both, not-yes, not-no, alike-same, same-alike}
 use Rattle.states.proofs.Lists.{any-append}
 use Rattle.states.proofs.Rows.{hands-running, hands-calm, hands-work, works-calm, new-calm, run-streams, rest-streams, after-failure, after-more, after-batch}
 use Rattle.states.proofs.Standing.{may-in, may-out}
@@ -428,3 +428,43 @@ keeps-rules t k =
     (and-both _ _ (le-leb _ _ (k .most))
     (by-test (λ (b : Bool). b ≡ true) (inState (t .state) Defunct)
     (λ d. and-both _ _ (eq-eqb _ _ (k .gone d .0)) (le-leb _ _ (k .gone d .1))) (λ d. eq-eqb _ _ (k .sum d))))))))
+
+-- and back
+pub rules-keep : (t : Table) → rules t ≡ true → Keeps t
+unfolding rules waitingRule numbersRule stateRules countsRule
+rules-keep t e =
+    let waiting = and-left (waitingRule (t .waiting)) (numbersRule (t .streams) && stateRules t) e in
+    let e₁ = and-right (waitingRule (t .waiting)) (numbersRule (t .streams) && stateRules t) e in
+    let numbers = and-left (numbersRule (t .streams)) (stateRules t) e₁ in
+    let below = and-right (leb (length (t .streams .numbers)) 8) (leb (t .streams .next) 65536 && distinctBelow (t .streams .next) (t .streams .numbers)) numbers in
+    let opened = openRule (t .state) (t .streams) in
+    let reset = resetRule (t .state) (t .waiting) in
+    let flight = flightRule (t .inFlight) (t .state) (t .streams) (t .waiting) in
+    let counts = countsRule (t .state) (length (t .waiting)) (t .accepted) (t .sent) in
+    let e₂ = and-right (numbersRule (t .streams)) (stateRules t) e₁ in
+    let e₃ = and-right opened (reset && (flight && counts)) e₂ in
+    let e₄ = and-right reset (flight && counts) e₃ in
+    let e₅ = and-right flight counts e₄ in
+    let sums = cond (inState (t .state) Defunct) (eqb (length (t .waiting)) 0 && leb (t .sent) (t .accepted)) (eqb (t .accepted) (t .sent + length (t .waiting))) in
+    let e₆ = and-right (leb (t .accepted) 4294967295) sums e₅ in
+    record {
+      long = leb-true _ _ (and-left (leb (length (t .waiting)) 32) (not (any outOfRange (t .waiting))) waiting);
+      ranges = not-no _ (and-right (leb (length (t .waiting)) 32) (not (any outOfRange (t .waiting))) waiting);
+      numbers = record {
+        few = leb-true _ _ (and-left (leb (length (t .streams .numbers)) 8) (leb (t .streams .next) 65536 && distinctBelow (t .streams .next) (t .streams .numbers)) numbers);
+        top = leb-true _ _ (and-left (leb (t .streams .next) 65536) (distinctBelow (t .streams .next) (t .streams .numbers)) below);
+        apart = and-right (leb (t .streams .next) 65536) (distinctBelow (t .streams .next) (t .streams .numbers)) below;
+      };
+      opened = same-alike _ _ (and-left opened (reset && (flight && counts)) e₂);
+      told = same-alike _ _ (and-left reset (flight && counts) e₃);
+      first = λ f. sym (ap (λ (b : Bool). cond b (firstInFlight (t .state) (t .streams) (t .waiting)) true) f) ∙ and-left flight counts e₄;
+      most = leb-true _ _ (and-left (leb (t .accepted) 4294967295) sums e₅);
+      gone = λ d. let both = sym (chosen d) ∙ e₆ in
+          (eqb-true _ _ (and-left (eqb (length (t .waiting)) 0) (leb (t .sent) (t .accepted)) both), leb-true _ _ (and-right (eqb (length (t .waiting)) 0) (leb (t .sent) (t .accepted)) both));
+      sum = λ d. eqb-true _ _ (sym (chosen d) ∙ e₆);
+    }
+  where
+    chosen : {b : Bool} → inState (t .state) Defunct ≡ b
+        → cond (inState (t .state) Defunct) (eqb (length (t .waiting)) 0 && leb (t .sent) (t .accepted)) (eqb (t .accepted) (t .sent + length (t .waiting)))
+        ≡ cond b (eqb (length (t .waiting)) 0 && leb (t .sent) (t .accepted)) (eqb (t .accepted) (t .sent + length (t .waiting)))
+    chosen d = ap (λ (b : Bool). cond b (eqb (length (t .waiting)) 0 && leb (t .sent) (t .accepted)) (eqb (t .accepted) (t .sent + length (t .waiting)))) d

@@ -32,6 +32,10 @@ pub const RUN: u8 = 0x10;
 
 pub const BEGIN: u8 = 0x11;
 
+pub const DISCARD: u8 = 0x2F;
+
+pub const PULL: u8 = 0x3F;
+
 // A request's tag: document 01, "Requests".
 pub fn tag(request: Request) -> u8
     ensures { λ r. ⌜ r ≡ tagOf (kindOf request) ⌝ }

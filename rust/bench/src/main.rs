@@ -157,11 +157,14 @@ fn frames() {
     }
 }
 
-/// An arrive, a take and a report on a record of which a PULL is always the next.
+/// An arrive, a take and a report on a record of which a PULL is always the next: through the wrapper, and by the functions
+/// that C calls.
 fn rounds() {
     let pull = library::Request::Pull { n: 1_000, qid: -1 };
     let same_pull = record::Kind::Pull(Batch { n: 1_000, qid: -1 });
-    for waiting in [1, 31] {
+    let pull_in_c = library::raw::RequestImage { kind: 0x3F, n: 1_000, qid: -1 };
+    let more_in_c = library::raw::OutcomeImage { number: 1 };
+    for waiting in [1, 8, 31] {
         let mut connection = library::Connection::fresh();
         let mut other = record::Connection::default();
         for (request, kind) in
@@ -178,16 +181,30 @@ fn rounds() {
             connection.arrive(pull).expect("queued");
             other.arrive(same_pull).expect("queued");
         }
+        let mut lent = *connection.record();
         let round = || {
             black_box(connection.arrive(black_box(pull)).expect("queued"));
             black_box(connection.take().expect("handed"));
             black_box(connection.report(library::Outcome::More).expect("answered"));
         };
-        let same_round = || {
+        let round_in_c = || {
+            // SAFETY: the pointer is that of one whole record, lent to one call at a time.
+            let replies = unsafe {
+                [
+                    library::raw::meulhaton_arrive(&mut lent, black_box(pull_in_c)).said,
+                    library::raw::meulhaton_take(&mut lent).said,
+                    library::raw::meulhaton_report(&mut lent, more_in_c).said,
+                ]
+            };
+            assert_eq!(replies, [1, 4, 5]);
+        };
+        let mut same_round = || {
             black_box(other.arrive(black_box(same_pull)).expect("queued"));
             black_box(other.take().expect("handed"));
             black_box(other.report(record::Report::SuccessWithMore).expect("answered"));
         };
-        row(&format!("arrive, take, report with {waiting} waiting"), "reference", compare(round, same_round));
+        let what = format!("arrive, take, report with {waiting} waiting");
+        row(&what, "reference", compare(round, &mut same_round));
+        row(&format!("{what}, as C calls"), "reference", compare(round_in_c, &mut same_round));
     }
 }

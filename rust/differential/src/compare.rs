@@ -23,6 +23,8 @@ pub struct Tally {
     pub replied: BTreeMap<&'static str, u64>,
     /// By the state and the tag of the request whose turn came in it.
     pub turned: BTreeMap<(u8, u8), u64>,
+    /// By the first place of a ring in which 32 requests wait, and on which a call was made and not refused.
+    pub full: BTreeMap<usize, u64>,
     /// By the request's tag, and what was wrong in it.
     pub complained: BTreeMap<(u8, Complaint), u64>,
 }
@@ -39,6 +41,9 @@ impl Tally {
         for (turn, count) in other.turned {
             *self.turned.entry(turn).or_default() += count;
         }
+        for (first, count) in other.full {
+            *self.full.entry(first).or_default() += count;
+        }
         for (complaint, count) in other.complained {
             *self.complained.entry(complaint).or_default() += count;
         }
@@ -49,8 +54,9 @@ impl Tally {
 pub const REFUSALS: [u8; 25] =
     [1, 2, 3, 4, 5, 6, 7, 8, 9, 10, 11, 12, 13, 14, 15, 17, 18, 19, 20, 21, 22, 24, 25, 26, 27];
 
-/// The replies that it must have met, and the refusals of a kind, an outcome, an n or a qid that names nothing.
-pub const REPLIES: [&str; 19] = [
+/// The replies that it must have met, the refusals of a kind, an outcome, an n or a qid that names nothing, those of a
+/// record that says what no list can, and what stood in unused places of records that were not refused.
+pub const REPLIES: [&str; 25] = [
     "queued",
     "closed",
     "idle",
@@ -70,6 +76,12 @@ pub const REPLIES: [&str; 19] = [
     "no outcome: 19",
     "no outcome: 18",
     "no outcome: 24",
+    "no state: 24",
+    "no truth: 24",
+    "no place: 24",
+    "no waiting kind: 24",
+    "unused: no kind",
+    "unused: RESET",
 ];
 
 /// Two sides and what they have been asked so far.

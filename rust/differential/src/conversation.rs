@@ -1,55 +1,147 @@
-//! Calls on connection records: a client and an engine that mostly fit each other, and records that are broken.
+//! Calls on connection records: a client and an engine that mostly fit each other, rings that fill and empty, and records
+//! that are broken or made of random numbers.
 
 use crate::compare::{Comparison, Difference};
 use crate::random::Random;
-use crate::sides::{Call, Image, Reply, RequestImage, STATES, Side, report, tag};
-use reference::connection::{Arrival, Kind, Turn};
+use crate::records;
+use crate::ring;
+use crate::ring::{PLACES, Record};
+use crate::sides::{Call, Keeper, Reply, RequestImage, Side, call_on_list, report, tag};
+use reference::Refusal;
+use reference::connection::{Arrival, Connection, Kind, Turn};
 use reference::pack::{Failure, Summary};
 use reference::request::Batch;
 
-impl<A: Side, B: Side> Comparison<'_, A, B> {
-    /// The same call on both records, which must stay the same, and untouched where it is refused.
-    fn call(&mut self, left: &mut Image, right: &mut Image, call: Call) -> std::result::Result<(), Difference> {
-        let (before_left, before_right) = (*left, *right);
-        let (ours, theirs) = (self.left.call(left, call), self.right.call(right, call));
-        let refused = ours.is_err() && (*left != before_left || *right != before_right);
-        if refused || (ours.is_ok() && !left.same(right)) {
-            return Err(format!("{call:?} on {before_left:?}\n  left:  {left:?}\n  right: {right:?}"));
-        }
+impl<A: Keeper, B: Side> Comparison<'_, A, B> {
+    /// The same call on a record and on the reference's connection, which must go on saying the same. A record that says
+    /// what no connection can is refused with 24.
+    fn call(&mut self, record: &mut Record, list: Option<&mut Connection>, call: Call) -> Result<(), Difference> {
+        let before = *record;
+        let ours = self.left.call(record, call);
+        let wrong = ring::wrongly_changed(&before, record, call, &ours);
+        let (theirs, says) = match list {
+            Some(list) => {
+                let old = *list;
+                let theirs = call_on_list(list, call);
+                let says = if theirs.is_ok() { ring::says(record, list) } else { *list == old };
+                (theirs, says)
+            }
+            None => (Err(Refusal::new(Refusal::RULE_BROKEN)), true),
+        };
         let unnamed = unnamed(call, &ours);
-        let reply = self.equal(|| format!("{call:?} on {before_left:?}"), ours, theirs)?;
-        if let (Some(Reply::Turned(_)), Some(turn)) = (&reply, before_left.turn()) {
-            *self.tally.turned.entry(turn).or_default() += 1;
+        let reply = self.equal(|| format!("{call:?} on {before:?}"), ours, theirs)?;
+        let wrong =
+            wrong.or((!says).then_some("the list read out of the ring is the old list, and the numbers are the same"));
+        if let Some(wrong) = wrong {
+            return Err(format!("{call:?} on {before:?}\n  after: {record:?}\n  not kept: {wrong}"));
         }
-        if let Some(name) = reply.as_ref().map(name).or(unnamed) {
-            *self.tally.replied.entry(name).or_default() += 1;
-        }
+        self.count(&before, reply.as_ref(), unnamed);
         Ok(())
     }
 
-    /// A list of calls from the fresh record, with broken records beside it.
-    pub fn conversation(&mut self) -> std::result::Result<(), Difference> {
-        let (mut left, mut right) = (self.left.fresh(), self.right.fresh());
-        if !left.same(&right) {
-            return Err(format!("fresh\n  left:  {left:?}\n  right: {right:?}"));
+    /// What came of a call on a record.
+    fn count(&mut self, record: &Record, reply: Option<&Reply>, unnamed: Option<&'static str>) {
+        let mut met = |name| *self.tally.replied.entry(name).or_default() += 1;
+        [reply.map(name), unnamed, ring::nameless(record)].into_iter().flatten().for_each(&mut met);
+        let Some(reply) = reply else { return };
+        if ring::unused(record).any(|place| ring::is_wrong(record.kinds[place])) {
+            met("unused: no kind");
         }
+        if ring::unused(record).any(|place| record.kinds[place] == tag::RESET) {
+            met("unused: RESET");
+        }
+        if let (Reply::Turned(_), Some(turn)) = (reply, ring::turn(record)) {
+            *self.tally.turned.entry(turn).or_default() += 1;
+        }
+        if record.control.waiting == PLACES {
+            *self.tally.full.entry(record.control.first).or_default() += 1;
+        }
+    }
+
+    /// A fresh record, and the reference's. The ring may begin at any place, and the unused places may hold anything.
+    fn fresh(&mut self) -> Result<(Record, Connection), Difference> {
+        let mut record = self.left.fresh();
+        if record != ring::FRESH {
+            return Err(format!("fresh\n  left: {record:?}"));
+        }
+        if self.random.once_in(2) {
+            record.control.first = self.random.below(PLACES);
+            records::fill_unused(&mut self.random, &mut record);
+        }
+        Ok((record, Connection::default()))
+    }
+
+    /// A list of calls from the fresh record, with other records beside it.
+    pub fn conversation(&mut self) -> Result<(), Difference> {
+        let (mut record, mut list) = self.fresh()?;
         let mut client = Client { script: vec![Kind::Hello], patience: self.random.pick(&[0, 1, 3, 40]) };
         let mut left_over = self.random.between(1, 400);
         while left_over > 0 {
             left_over -= 1;
             if self.random.once_in(1_500) {
-                move_numbers(&mut self.random, &mut left, &mut right);
+                move_numbers(&mut self.random, &mut record, &mut list);
             }
-            let call = client.next_call(&mut self.random, &left);
-            self.call(&mut left, &mut right, call)?;
+            if self.random.once_in(50) {
+                records::fill_unused(&mut self.random, &mut record);
+            }
+            let call = client.next_call(&mut self.random, &record);
+            self.call(&mut record, Some(&mut list), call)?;
             if self.random.once_in(4) {
-                let broken = broken(&mut self.random, left);
-                let call = client.next_call(&mut self.random, &left);
-                self.call(&mut { broken }, &mut { broken }, call)?;
+                let beside = records::beside(&mut self.random, record);
+                let call = client.next_call(&mut self.random, &record);
+                self.call(&mut { beside }, ring::listed(&beside).as_mut(), call)?;
             }
-            if left.state == DEFUNCT {
+            if record.control.state == DEFUNCT {
                 left_over = left_over.min(3);
             }
+        }
+        Ok(())
+    }
+
+    /// Requests come until the ring is full or almost so, all or most are served, and requests come again.
+    pub fn rounds(&mut self) -> Result<(), Difference> {
+        let (mut record, mut list) = self.fresh()?;
+        let mut client = Client { script: vec![], patience: 0 };
+        let mut round = vec![Kind::Hello];
+        for _ in 0..self.random.between(2, 8) {
+            for kind in round.drain(..) {
+                self.call(&mut record, Some(&mut list), Call::Arrive(RequestImage::new(kind)))?;
+            }
+            let stay = if self.random.once_in(3) { self.random.below(PLACES) } else { 0 };
+            while record.control.waiting > stay {
+                let call = match record.control.in_flight {
+                    0 => Call::Take,
+                    _ => Call::Report(if self.random.once_in(60) { 2 } else { 0 }),
+                };
+                self.call(&mut record, Some(&mut list), call)?;
+            }
+            if record.control.state == DEFUNCT {
+                return Ok(());
+            }
+            if self.random.once_in(3) {
+                records::fill_unused(&mut self.random, &mut record);
+            }
+            if record.control.state == FAILED {
+                round.push(Kind::Reset);
+                client.script.clear();
+            }
+            let free = PLACES - record.control.waiting - round.len();
+            let come = free.saturating_sub(self.random.pick(&[0, 0, 0, 1, 5]));
+            round.extend((0..come).map(|_| client.fitting(&mut self.random)));
+            // One for which there is no place.
+            round.extend((come == free).then_some(Kind::Run));
+        }
+        Ok(())
+    }
+
+    /// Every call on a record of random numbers: wholly random ones, or such that most keep the rules.
+    pub fn record(&mut self) -> Result<(), Difference> {
+        let record = records::any(&mut self.random);
+        let mut client = Client { script: vec![], patience: 0 };
+        let request = client.request(&mut self.random, &record);
+        let outcome = self.random.pick(&[0, 0, 1, 2, 3]);
+        for call in [Call::Arrive(request), Call::Take, Call::Report(outcome), Call::Close] {
+            self.call(&mut { record }, ring::listed(&record).as_mut(), call)?;
         }
         Ok(())
     }
@@ -93,21 +185,27 @@ fn unnamed(call: Call, answer: &reference::Result<Reply>) -> Option<&'static str
     }
 }
 
-/// Takes both records to where counts and numbers end.
-fn move_numbers(random: &mut Random, left: &mut Image, right: &mut Image) {
-    let by = (u64::from(u32::MAX) - left.accepted).saturating_sub(random.below(5) as u64);
-    let next = if random.once_in(2) { left.next } else { left.next.max(65_530 + random.below(7) as u64) };
-    for image in [left, right] {
-        image.accepted += by;
-        image.sent += by;
-        image.next = next;
+/// Takes both to where counts and numbers end.
+fn move_numbers(random: &mut Random, record: &mut Record, list: &mut Connection) {
+    let control = &mut record.control;
+    let by = (u64::from(u32::MAX) - control.accepted).saturating_sub(random.below(5) as u64);
+    control.accepted += by;
+    control.sent += by;
+    if random.once_in(2) {
+        control.next = control.next.max(65_530 + random.below(7) as u64);
     }
+    (list.accepted, list.sent, list.next) = (control.accepted, control.sent, control.next);
 }
 
-/// Numbers of states in an image.
+/// Numbers of states in a record.
+pub const CONNECTED: u8 = 0;
+pub const READY: u8 = 1;
+pub const STREAMING: u8 = 2;
+pub const TX_READY: u8 = 3;
+pub const TX_STREAMING: u8 = 4;
 pub const FAILED: u8 = 5;
-const INTERRUPTED: u8 = 6;
-const DEFUNCT: u8 = 7;
+pub const INTERRUPTED: u8 = 6;
+pub const DEFUNCT: u8 = 7;
 
 /// Every turn that there can be, the state and the request's tag. DEFUNCT has none, and a RESET waits in INTERRUPTED
 /// alone.
@@ -116,8 +214,8 @@ pub fn turns() -> impl Iterator<Item = (u8, u8)> {
     turns.filter(|&(state, tag)| tag != tag::RESET || state == INTERRUPTED)
 }
 
-fn batch(random: &mut Random, image: &Image) -> Batch {
-    let streams = image.streams();
+fn batch(random: &mut Random, record: &Record) -> Batch {
+    let streams = ring::streams(record);
     let qid = match random.below(8) {
         0..=2 if !streams.is_empty() => random.pick(streams) as i64,
         0..=5 => -1,
@@ -137,20 +235,20 @@ struct Client {
 
 impl Client {
     /// Now and then of a kind that is none, or with numbers that it does not carry.
-    fn request(&mut self, random: &mut Random, image: &Image) -> RequestImage {
-        let Batch { n, qid } = batch(random, image);
+    fn request(&mut self, random: &mut Random, record: &Record) -> RequestImage {
+        let Batch { n, qid } = batch(random, record);
         match random.below(100) {
             0..=1 => RequestImage { kind: random.pick(&[0x00, 0x03, 0x0E, 0x14, 0x3E, 0x40, 0x70, 0xFF]), n, qid },
-            2 => match self.kind(random, image) {
+            2 => match self.kind(random, record) {
                 kind @ (Kind::Discard(_) | Kind::Pull(_)) => RequestImage::new(kind),
                 kind => RequestImage { n, qid, ..RequestImage::new(kind) },
             },
-            _ => RequestImage::new(self.kind(random, image)),
+            _ => RequestImage::new(self.kind(random, record)),
         }
     }
 
-    fn kind(&mut self, random: &mut Random, image: &Image) -> Kind {
-        let batch = batch(random, image);
+    fn kind(&mut self, random: &mut Random, record: &Record) -> Kind {
+        let batch = batch(random, record);
         if random.once_in(25) {
             let any = [Kind::Hello, Kind::Goodbye, Kind::Commit, Kind::Rollback, Kind::Begin, Kind::Discard(batch)];
             return random.pick(&any);
@@ -158,12 +256,24 @@ impl Client {
         if random.once_in(25) {
             return Kind::Reset;
         }
-        if image.state == FAILED && random.once_in(3) {
+        if record.control.state == FAILED && random.once_in(3) {
             self.script.clear();
             return Kind::Reset;
         }
         if self.script.is_empty() {
             self.extend_script(random, batch);
+        }
+        self.script.pop().unwrap_or(Kind::Run)
+    }
+
+    /// What closes no connection to which nothing else comes but a RESET in FAILED, with a script from its beginning behind it.
+    fn fitting(&mut self, random: &mut Random) -> Kind {
+        if random.once_in(30) {
+            self.script.clear();
+            return Kind::Reset;
+        }
+        if self.script.is_empty() {
+            self.extend_script(random, Batch { n: -1, qid: -1 });
         }
         self.script.pop().unwrap_or(Kind::Run)
     }
@@ -183,50 +293,19 @@ impl Client {
         self.script.push(Kind::Begin);
     }
 
-    fn next_call(&mut self, random: &mut Random, image: &Image) -> Call {
+    fn next_call(&mut self, random: &mut Random, record: &Record) -> Call {
         let reports = [0, 0, 0, 1, 2];
         match random.below(60) {
             0 if random.once_in(8) => Call::Close,
             0 if random.once_in(4) => Call::Report(random.pick(&[3, 4, 127, 128, 255])),
             0..=1 => Call::Report(random.pick(&reports)),
             2..=3 => Call::Take,
-            _ if image.waiting > 0 && random.below(self.patience + 1) == 0 => match image.in_flight {
+            _ if record.control.waiting > 0 && random.below(self.patience + 1) == 0 => match record.control.in_flight {
                 0 => Call::Take,
                 _ if random.once_in(4) => Call::Report(random.pick(&reports)),
                 _ => Call::Report(0),
             },
-            _ => Call::Arrive(self.request(random, image)),
+            _ => Call::Arrive(self.request(random, record)),
         }
     }
-}
-
-/// A record in which something was changed: most of these break a rule.
-fn broken(random: &mut Random, mut image: Image) -> Image {
-    for _ in 0..random.between(1, 2) {
-        let small = random.below(10) as u64;
-        let large = random.pick(&[u64::MAX, 1 << 32, (1 << 32) - 1, 65_536, 65_537, 33, 32, 9]);
-        let number = random.pick(&[small, small, large]);
-        let change =
-            |value: &mut u64| *value = if small < 5 { value.wrapping_add(small).wrapping_sub(2) } else { number };
-        match random.below(11) {
-            0 => image.state = random.below(STATES.len() + 1) as u8,
-            1 => image.in_flight = random.pick(&[0, 1, 1, 2, 255]),
-            2 => change(&mut image.waiting),
-            3 => change(&mut image.open),
-            4 => change(&mut image.next),
-            5 => change(&mut image.accepted),
-            6 => change(&mut image.sent),
-            7..=8 => change(&mut image.streams[random.below(8)]),
-            _ => {
-                let count = image.waiting.clamp(1, 32) as usize;
-                let request = &mut image.requests[random.below(count)];
-                match random.below(3) {
-                    0 => request.kind = random.pick(&[0x00, 0x01, 0x0F, 0x10, 0x3F, 0x66, 0xFF]),
-                    1 => request.n = random.pick(&[0, -1, -2, 1, i64::MIN]),
-                    _ => request.qid = random.pick(&[0, -1, -2, 1, i64::MIN]),
-                }
-            }
-        }
-    }
-    image
 }

@@ -1,7 +1,9 @@
 //! The proved library, through its safe wrapper; what the wrapper cannot say, through the functions that it wraps.
 
+use crate::ring;
+use crate::ring::Record;
 use crate::sides;
-use crate::sides::{Asked, Call, Found, Head, Image, Item, Reply, RequestImage, Side, Span, Transaction};
+use crate::sides::{Asked, Call, Found, Head, Item, Keeper, Reply, RequestImage, Side, Span, Transaction};
 use meulhaton as proved;
 use reference::connection::{Answer, Arrival, Kind, Report, Turn};
 use reference::frame::Frame;
@@ -55,13 +57,15 @@ impl Side for Library {
         }
         .map_err(refusal)
     }
+}
 
-    fn fresh(&self) -> Image {
-        from_image(proved::Connection::fresh().image())
+impl Keeper for Library {
+    fn fresh(&self) -> Record {
+        *proved::Connection::fresh().record()
     }
 
-    fn call(&self, image: &mut Image, call: Call) -> Result<Reply> {
-        let mut connection = proved::Connection::from_image(to_image(image));
+    fn call(&self, record: &mut Record, call: Call) -> Result<Reply> {
+        let mut connection = proved::Connection::from_record(*record);
         let reply = match call {
             Call::Arrive(request) => arrive(&mut connection, request).map(|arrival| {
                 Reply::Arrived(match arrival {
@@ -73,7 +77,9 @@ impl Side for Library {
             Call::Report(number) => report(&mut connection, number).map(|answered| Reply::Reported(answer(answered))),
             Call::Close => connection.close().map(|()| Reply::Closed),
         };
-        *image = from_image(connection.image());
+        *record = *connection.record();
+        let requests = connection.requests().map(|request| request.map(kind));
+        assert!(requests.eq(ring::waiting(record).map(RequestImage::kind)), "the wrapper reads {record:?}");
         reply.map_err(refusal)
     }
 }
@@ -86,10 +92,11 @@ fn arrive(
     if let Some(kind) = request.kind().filter(|&kind| RequestImage::new(kind) == request) {
         return connection.arrive(to_request(kind));
     }
-    let mut image = connection.image().clone();
+    let mut record = *connection.record();
+    let request = proved::raw::RequestImage { kind: request.kind, n: request.n, qid: request.qid };
     // SAFETY: the pointer is that of one whole record, lent to this call alone.
-    let reply = unsafe { proved::raw::meulhaton_arrive(&mut image, to_request_image(request)) };
-    *connection = proved::Connection::from_image(image);
+    let reply = unsafe { proved::raw::meulhaton_arrive(&mut record, request) };
+    *connection = proved::Connection::from_record(record);
     match (reply.refusal, reply.said) {
         (0, 1) => Ok(proved::Arrival::Queued),
         (0, 2) => Ok(proved::Arrival::Closed),
@@ -107,10 +114,10 @@ fn report(connection: &mut proved::Connection, number: u8) -> std::result::Resul
             Report::Failure => proved::Outcome::Failure,
         });
     }
-    let mut image = connection.image().clone();
+    let mut record = *connection.record();
     // SAFETY: the pointer is that of one whole record, lent to this call alone.
-    let reply = unsafe { proved::raw::meulhaton_report(&mut image, proved::raw::OutcomeImage { number }) };
-    *connection = proved::Connection::from_image(image);
+    let reply = unsafe { proved::raw::meulhaton_report(&mut record, proved::raw::OutcomeImage { number }) };
+    *connection = proved::Connection::from_record(record);
     assert_ne!(reply.refusal, 0, "{number} names no outcome, and was answered");
     Err(proved::Refusal { number: reply.refusal, place: reply.place as usize })
 }
@@ -246,36 +253,4 @@ fn turn(taken: proved::Taken) -> Turn {
         proved::Taken::Handed { request, number } => Turn::Handed { kind: kind(request), number },
         proved::Taken::Answered(answered) => Turn::Answered(answer(answered)),
     }
-}
-
-fn from_image(image: &proved::raw::Image) -> Image {
-    Image {
-        state: image.state,
-        in_flight: image.in_flight,
-        waiting: image.waiting,
-        open: image.opened,
-        next: image.next,
-        accepted: image.accepted,
-        sent: image.sent,
-        streams: image.streams,
-        requests: image.requests.map(|request| RequestImage { kind: request.kind, n: request.n, qid: request.qid }),
-    }
-}
-
-fn to_image(image: &Image) -> proved::raw::Image {
-    proved::raw::Image {
-        state: image.state,
-        in_flight: image.in_flight,
-        waiting: image.waiting,
-        opened: image.open,
-        next: image.next,
-        accepted: image.accepted,
-        sent: image.sent,
-        streams: image.streams,
-        requests: image.requests.map(to_request_image),
-    }
-}
-
-fn to_request_image(request: RequestImage) -> proved::raw::RequestImage {
-    proved::raw::RequestImage { kind: request.kind, n: request.n, qid: request.qid }
 }

@@ -7,18 +7,20 @@ mod conversation;
 mod generate;
 mod library;
 mod random;
+mod records;
+mod ring;
 mod sides;
 
 use compare::{Comparison, Difference, REFUSALS, REPLIES, Tally};
 use library::Library;
-use sides::{Reference, Side};
+use sides::{Keeper, Reference, Side};
 use std::process::ExitCode;
 use std::time::Instant;
 
 /// Every part, with a share of its random cases.
-fn compare<A: Side, B: Side>(left: &A, right: &B, seed: u64, share: u64) -> Result<Tally, Difference> {
+fn compare<A: Keeper, B: Side>(left: &A, right: &B, seed: u64, share: u64) -> Result<Tally, Difference> {
     type Part<'s, A, B> = (&'static str, u64, fn(&mut Comparison<'s, A, B>) -> Result<(), Difference>);
-    let parts: [Part<A, B>; 8] = [
+    let parts: [Part<A, B>; 10] = [
         ("handshakes", 20_000, Comparison::handshake),
         ("frames", 60_000, Comparison::frame),
         ("chunks", 40_000, Comparison::chunks),
@@ -27,6 +29,8 @@ fn compare<A: Side, B: Side>(left: &A, right: &B, seed: u64, share: u64) -> Resu
         ("requests", 200_000, Comparison::request),
         ("packing", 100_000, Comparison::packing),
         ("conversations", 20_000, Comparison::conversation),
+        ("rounds", 4_000, Comparison::rounds),
+        ("records", 200_000, Comparison::record),
     ];
     let mut total = Tally::default();
     let mut add = |name, cases, start: Instant, tally: Tally| {
@@ -58,7 +62,14 @@ const COMPLAINTS_LEAST: u64 = 50;
 
 /// What came, and whether everything came that there is.
 fn complete(tally: &Tally) -> bool {
-    every_reply(tally) & every_turn(tally) & every_complaint(tally)
+    every_reply(tally) & every_turn(tally) & every_ring(tally) & every_complaint(tally)
+}
+
+fn every_ring(tally: &Tally) -> bool {
+    let counts = (0..ring::PLACES).map(|first| tally.full.get(&first).copied().unwrap_or(0));
+    let least = counts.min().unwrap_or_default();
+    println!("full rings: from each first place on, at least {least} times");
+    least > 0
 }
 
 fn every_turn(tally: &Tally) -> bool {
@@ -107,9 +118,10 @@ fn main() -> ExitCode {
 #[cfg(test)]
 mod tests {
     use super::*;
-    use crate::conversation::FAILED;
-    use crate::sides::{Asked, Call, Found, Image, Item, Reply, RequestImage, tag};
-    use reference::connection::{Kind, Turn};
+    use crate::conversation::{DEFUNCT, FAILED, INTERRUPTED, READY};
+    use crate::ring::{Control, PLACES, Record};
+    use crate::sides::{Asked, Call, Found, Item, Reply, RequestImage, STATES, call_on_list, tag};
+    use reference::connection::{Arrival, Kind, Turn};
     use reference::frame::Frame;
     use reference::handshake::Version;
     use reference::{Refusal, Result};
@@ -150,6 +162,22 @@ mod tests {
         MissesFourthOfEight,
         PassesNineForEight,
         ReachesPastTheText,
+        // Of the ring.
+        UsesAPlaceTooFar,
+        SkipsTheLastPlace,
+        LeavesFirst,
+        ClosingClearsFirst,
+        MovesTheQueueUp,
+        ClearsTheServedPlace,
+        StoresNumbersOfAll,
+        ClosingClearsStreams,
+        SeesUnusedReset,
+        BreaksForUnusedReset,
+        BreaksForUnusedPlace,
+        CountsFirstAround,
+        StateAboveIsDefunct,
+        TruthAboveIsTrue,
+        NamelessIsPull,
     }
 
     impl Fault {
@@ -169,27 +197,114 @@ mod tests {
         }
 
         /// A take, where this fault changes it.
-        fn take(self, image: &mut Image) -> Option<Result<Reply>> {
+        fn take(self, record: &mut Record) -> Option<Result<Reply>> {
             let turned = |turn| Some(Ok(Reply::Turned(turn)));
-            match (self, image.turn()?) {
+            match (self, ring::turn(record)?) {
                 (Fault::AlwaysIdle, _) => turned(Turn::Idle),
                 (Fault::ClosesForCommitInFailed, (FAILED, tag::COMMIT)) => {
-                    Some(Reference.call(image, Call::Close).map(|_| Reply::Turned(Turn::Closed)))
+                    Some(call_by_list(record, Call::Close).map(|_| Reply::Turned(Turn::Closed)))
                 }
                 (Fault::HandsOverCommitInFailed, (FAILED, tag::COMMIT)) => {
-                    image.in_flight = 1;
-                    turned(Turn::Handed { kind: Kind::Commit, number: image.sent + 1 })
+                    record.control.in_flight = 1;
+                    turned(Turn::Handed { kind: Kind::Commit, number: record.control.sent + 1 })
                 }
                 (Fault::IgnoresHelloInFailed, (FAILED, tag::HELLO)) => {
-                    image.requests[0] = RequestImage::new(Kind::Run);
-                    Some(Reference.call(image, Call::Take))
+                    let place = ring::place(record, 0);
+                    let hello = ring::request_at(record, place);
+                    ring::put(record, place, RequestImage::new(Kind::Run));
+                    let reply = call_by_list(record, Call::Take);
+                    ring::put(record, place, hello);
+                    Some(reply)
                 }
                 (Fault::IgnoredBeginSetsNext, (FAILED, tag::BEGIN)) => {
-                    let reply = Reference.call(image, Call::Take);
-                    image.next = 0;
+                    let reply = call_by_list(record, Call::Take);
+                    if reply.is_ok() {
+                        record.control.next = 0;
+                    }
                     Some(reply)
                 }
                 _ => None,
+            }
+        }
+
+        /// A record that this fault takes another one for.
+        fn taken_for(self, mut record: Record) -> Record {
+            let control = &mut record.control;
+            match self {
+                Fault::CountsFirstAround => control.first %= PLACES,
+                Fault::StateAboveIsDefunct => control.state = control.state.min(DEFUNCT),
+                Fault::TruthAboveIsTrue => control.in_flight = control.in_flight.min(1),
+                Fault::NamelessIsPull => {
+                    for place in ring::used(&record) {
+                        if ring::request_at(&record, place).kind().is_none() {
+                            record.kinds[place] = tag::PULL;
+                        }
+                    }
+                }
+                _ => {}
+            }
+            record
+        }
+
+        /// Whether this fault refuses a record for what stands in its unused places.
+        fn refuses(self, record: &Record) -> bool {
+            ring::unused(record).map(|place| record.kinds[place]).any(|kind| match self {
+                Fault::BreaksForUnusedReset => kind == tag::RESET && record.control.state != INTERRUPTED,
+                Fault::BreaksForUnusedPlace => ring::is_wrong(kind),
+                _ => false,
+            })
+        }
+
+        /// What this fault makes of a record after a call that was not refused.
+        fn spoil(self, before: &Record, record: &mut Record, call: Call, reply: &Reply) {
+            let stored = ring::place(before, before.control.waiting);
+            let elsewhere = match self {
+                Fault::UsesAPlaceTooFar => (stored + 1) % PLACES,
+                Fault::SkipsTheLastPlace if stored == PLACES - 1 => 0,
+                _ => stored,
+            };
+            match (call, reply) {
+                (Call::Arrive(request), Reply::Arrived(Arrival::Queued)) => {
+                    let queued = ring::request_at(record, stored);
+                    ring::put(record, stored, ring::request_at(before, stored));
+                    ring::put(record, elsewhere, queued);
+                    if self == Fault::StoresNumbersOfAll {
+                        ring::put(record, elsewhere, request);
+                    }
+                }
+                (_, Reply::Reported(_) | Reply::Turned(Turn::Answered(_))) => {
+                    self.spoil_answered(before, record, reply)
+                }
+                (_, Reply::Arrived(Arrival::Closed) | Reply::Turned(Turn::Closed) | Reply::Closed) => match self {
+                    Fault::ClosingClearsFirst => record.control.first = 0,
+                    Fault::ClosingClearsStreams => record.streams = [0; 8],
+                    _ => {}
+                },
+                _ => {}
+            }
+        }
+
+        fn spoil_answered(self, before: &Record, record: &mut Record, reply: &Reply) {
+            let unused_reset = ring::unused(before).any(|place| before.kinds[place] == tag::RESET);
+            let was_reset = ring::turn(before) == Some((INTERRUPTED, tag::RESET)) && matches!(reply, Reply::Turned(_));
+            match self {
+                Fault::LosesCount if matches!(reply, Reply::Reported(_)) => record.control.sent -= 1,
+                Fault::LeavesFirst => record.control.first = before.control.first,
+                Fault::ClearsTheServedPlace => {
+                    ring::put(record, before.control.first, RequestImage { kind: 0, n: 0, qid: 0 })
+                }
+                Fault::MovesTheQueueUp => {
+                    let waiting: Vec<_> = ring::waiting(record).collect();
+                    record.control.first = before.control.first;
+                    for (behind, request) in waiting.into_iter().enumerate() {
+                        let place = ring::place(record, behind);
+                        ring::put(record, place, request);
+                    }
+                }
+                Fault::SeesUnusedReset if was_reset && unused_reset && record.control.state == READY => {
+                    record.control.state = INTERRUPTED;
+                }
+                _ => {}
             }
         }
 
@@ -276,14 +391,16 @@ mod tests {
                 _ => Reference.pack(item, buffer, at),
             }
         }
+    }
 
-        fn fresh(&self) -> Image {
-            Reference.fresh()
+    impl Keeper for Fault {
+        fn fresh(&self) -> Record {
+            ring::FRESH
         }
 
-        fn call(&self, image: &mut Image, call: Call) -> Result<Reply> {
+        fn call(&self, record: &mut Record, call: Call) -> Result<Reply> {
             let call = match call {
-                Call::Take => match self.take(image) {
+                Call::Take => match self.take(record) {
                     Some(reply) => return reply,
                     None => call,
                 },
@@ -293,15 +410,50 @@ mod tests {
                 Call::Report(3..) if *self == Fault::FailsForNoOutcome => Call::Report(2),
                 call => call,
             };
-            let reply = Reference.call(image, call).map_err(|refusal| match refusal.number {
+            if self.refuses(record) {
+                return Err(Refusal::new(24));
+            }
+            let mut after = self.taken_for(*record);
+            let reply = call_by_list(&mut after, call).map_err(|refusal| match refusal.number {
                 27 if *self == Fault::ArrivesAsWrongKind => Refusal::new(26),
                 _ => refusal,
             })?;
-            if *self == Fault::LosesCount && matches!(reply, Reply::Reported(_)) {
-                image.sent -= 1;
-            }
+            self.spoil(record, &mut after, call, &reply);
+            *record = after;
             Ok(reply)
         }
+    }
+
+    impl Keeper for Reference {
+        fn fresh(&self) -> Record {
+            ring::FRESH
+        }
+
+        fn call(&self, record: &mut Record, call: Call) -> Result<Reply> {
+            call_by_list(record, call)
+        }
+    }
+
+    /// A call on the ring by way of the reference's list.
+    fn call_by_list(record: &mut Record, call: Call) -> Result<Reply> {
+        let mut list = ring::listed(record).ok_or(Refusal::new(24))?;
+        let reply = call_on_list(&mut list, call)?;
+        if let (Call::Arrive(request), Reply::Arrived(Arrival::Queued)) = (call, reply) {
+            let place = ring::place(record, record.control.waiting);
+            ring::put(record, place, RequestImage::new(request.kind().expect("queued")));
+        }
+        record.control = Control {
+            state: STATES.iter().position(|&state| state == list.state).expect("a state") as u8,
+            in_flight: u8::from(list.in_flight),
+            first: ring::place(record, (list.sent - record.control.sent) as usize),
+            waiting: list.requests().len(),
+            opened: list.streams().len(),
+            next: list.next,
+            accepted: list.accepted,
+            sent: list.sent,
+        };
+        record.streams[..list.streams().len()].copy_from_slice(list.streams());
+        Ok(reply)
     }
 
     #[test]

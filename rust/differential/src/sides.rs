@@ -1,12 +1,13 @@
 //! What both sides are asked, and how their answers are told so that they can be compared.
 
+use crate::ring::Record;
 use reference::connection::{Answer, Arrival, Connection, Kind, Report, State, Turn};
 use reference::frame::Frame;
 use reference::handshake::Version;
 use reference::pack::Summary;
 use reference::request::{Batch, Mode, Request};
 use reference::value::{Container, Value};
-use reference::{Refusal, Result, frame, handshake, pack, request, value};
+use reference::{Result, frame, handshake, pack, request, value};
 
 /// A value's own bytes, by offsets into its message.
 #[derive(Clone, Copy, PartialEq, Eq, Debug)]
@@ -63,20 +64,6 @@ pub struct Transaction {
     pub db: Option<Span>,
 }
 
-/// A connection record in numbers, as it lies with the caller.
-#[derive(Clone, Copy, PartialEq, Eq, Debug)]
-pub struct Image {
-    pub state: u8,
-    pub in_flight: u8,
-    pub waiting: u64,
-    pub open: u64,
-    pub next: u64,
-    pub accepted: u64,
-    pub sent: u64,
-    pub streams: [u64; 8],
-    pub requests: [RequestImage; 32],
-}
-
 #[derive(Clone, Copy, PartialEq, Eq, Debug)]
 pub struct RequestImage {
     pub kind: u8,
@@ -124,8 +111,12 @@ pub trait Side {
     fn read_request(&self, version: Version, message: &[u8]) -> Result<Asked>;
     /// Answers the offset behind what was packed.
     fn pack(&self, item: Item, buffer: &mut [u8], at: usize) -> Result<usize>;
-    fn fresh(&self) -> Image;
-    fn call(&self, image: &mut Image, call: Call) -> Result<Reply>;
+}
+
+/// A side with a record of the connection as it lies with the caller.
+pub trait Keeper: Side {
+    fn fresh(&self) -> Record;
+    fn call(&self, record: &mut Record, call: Call) -> Result<Reply>;
 }
 
 /// The implementation written from the papers.
@@ -169,38 +160,19 @@ impl Side for Reference {
         }?;
         Ok(at + length)
     }
+}
 
-    fn fresh(&self) -> Image {
-        let blank = RequestImage { kind: 0, n: 0, qid: 0 };
-        let mut image = Image {
-            state: 0,
-            in_flight: 0,
-            waiting: 0,
-            open: 0,
-            next: 0,
-            accepted: 0,
-            sent: 0,
-            streams: [0; 8],
-            requests: [blank; 32],
-        };
-        image.keep(&Connection::default());
-        image
-    }
-
-    fn call(&self, image: &mut Image, call: Call) -> Result<Reply> {
-        let mut connection = image.connection().ok_or(Refusal::new(Refusal::RULE_BROKEN))?;
-        let reply = match call {
-            Call::Arrive(request) => Reply::Arrived(connection.arrive(request.kind())?),
-            Call::Take => Reply::Turned(connection.take()?),
-            Call::Report(number) => Reply::Reported(connection.report(report(number))?),
-            Call::Close => {
-                connection.close()?;
-                Reply::Closed
-            }
-        };
-        image.keep(&connection);
-        Ok(reply)
-    }
+/// The same call on the reference's own record, whose waiting requests are a list.
+pub fn call_on_list(connection: &mut Connection, call: Call) -> Result<Reply> {
+    Ok(match call {
+        Call::Arrive(request) => Reply::Arrived(connection.arrive(request.kind())?),
+        Call::Take => Reply::Turned(connection.take()?),
+        Call::Report(number) => Reply::Reported(connection.report(report(number))?),
+        Call::Close => {
+            connection.close()?;
+            Reply::Closed
+        }
+    })
 }
 
 pub const STATES: [State; 8] = [
@@ -264,74 +236,6 @@ impl RequestImage {
             tag::PULL => Kind::Pull(batch),
             _ => return None,
         })
-    }
-}
-
-impl Image {
-    /// The record that the numbers name, if they name one.
-    fn connection(&self) -> Option<Connection> {
-        let mut connection = Connection {
-            state: *STATES.get(usize::from(self.state))?,
-            in_flight: [false, true].get(usize::from(self.in_flight)).copied()?,
-            waiting_count: self.waiting,
-            open: self.streams,
-            open_count: self.open,
-            next: self.next,
-            accepted: self.accepted,
-            sent: self.sent,
-            ..Connection::default()
-        };
-        for (kind, image) in connection.waiting.iter_mut().zip(self.waiting()) {
-            *kind = image.kind()?;
-        }
-        Some(connection)
-    }
-
-    fn keep(&mut self, connection: &Connection) {
-        self.state = STATES.iter().position(|&state| state == connection.state).unwrap_or(255) as u8;
-        self.in_flight = u8::from(connection.in_flight);
-        self.waiting = connection.waiting_count;
-        self.open = connection.open_count;
-        self.next = connection.next;
-        self.accepted = connection.accepted;
-        self.sent = connection.sent;
-        self.streams = connection.open;
-        for (image, &kind) in self.requests.iter_mut().zip(connection.requests()) {
-            *image = RequestImage::new(kind);
-        }
-    }
-
-    pub fn waiting(&self) -> &[RequestImage] {
-        &self.requests[..self.waiting.min(32) as usize]
-    }
-
-    /// The state, and the tag of the request that a take would look at.
-    pub fn turn(&self) -> Option<(u8, u8)> {
-        let first = self.waiting().first()?;
-        (self.in_flight == 0).then_some((self.state, first.kind))
-    }
-
-    pub fn streams(&self) -> &[u64] {
-        &self.streams[..self.open.min(8) as usize]
-    }
-
-    /// Whether both keep the same. The order of the open streams, and what stands past the counts, mean nothing.
-    pub fn same(&self, other: &Image) -> bool {
-        let numbers = |image: &Image| {
-            (image.state, image.in_flight, image.waiting, image.open, image.next, image.accepted, image.sent)
-        };
-        let sorted = |image: &Image| {
-            let mut streams = image.streams().to_vec();
-            streams.sort_unstable();
-            streams
-        };
-        numbers(self) == numbers(other)
-            && sorted(self) == sorted(other)
-            && self
-                .waiting()
-                .iter()
-                .map(|request| request.kind())
-                .eq(other.waiting().iter().map(|request| request.kind()))
     }
 }
 

@@ -88,7 +88,7 @@ pub enum Report {
 
 /// A connection. The fields are open to the caller who keeps it, so every call looks at the standing rules first.
 /// What stands past the counts never matters.
-#[derive(Clone, Copy, Debug)]
+#[derive(Clone, Copy, PartialEq, Eq, Debug)]
 pub struct Connection {
     pub state: State,
     pub waiting: [Kind; WAITING_MAX],

@@ -2,11 +2,11 @@
 use mathlib.Core.List.{List, [], _∷_, _++_}
 use Rattle.refusal.specs.Answer.{Answer}
 use Rattle.states.specs.Table.{Said}
-use Rattle.connection.specs.declared.record.Connection.{Connection}
+use Rattle.record.specs.declared.record.Connection.{Connection}
 use Rattle.states.specs.declared.request.Request.{Request}
 use Rattle.states.specs.declared.answers.Outcome.{Outcome}
 use Rattle.states.specs.Answers.{toldArrival, toldTaken, toldReported, toldClosing}
-use Rattle.connection.specs.Record.{arriveOf, takeOf, reportOf, closeOf}
+use Rattle.record.specs.Calls.{arriveOf, takeOf, reportOf, closeOf}
 use Rattle.calls.specs.declared.conversation.Heard.{Heard}
 
 -- the record after a request's arrival, its turn, and the engine's outcome

@@ -5,7 +5,7 @@ use Rattle.serving.proofs.after_refusal.Statement.{statement}
 use Rattle.serving.proofs.after_refusal.Tie as tie
 
 returns : tie.Need-returns
-returns c = let d = c .before in let t = d .before in closes _ _ (t .before .closes .result) (t .before .closes .ensures) (t .if1 .taken) (d .close .result) (d .close .ensures)
+returns c = let d = c .before in closes _ _ (d .before .before .closes .result) (d .before .before .closes .ensures) (d .before .if1 .taken) _ (d .step .ensures)
 
 returns-2 : tie.Need-returns-2
 returns-2 c = stays _ _ (c .before .closes .result) (c .before .closes .ensures) (c .if1 .left)

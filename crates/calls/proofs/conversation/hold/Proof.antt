@@ -29,13 +29,13 @@ use denote.Triple.Entry.{onEntry}
 use denote.Triple.Spec.{Meets, tripleOf}
 use denote.Triple.Table.{entered, cited}
 use denote.Triple.Walked.{says, Stays, stay-dropped, walkOf, goes-dropped, ends-at, walked, walk-meets}
-use Rattle.connection.specs.declared.record.Connection.{Connection}
+use Rattle.record.specs.declared.record.Connection.{Connection}
 use Rattle.states.specs.declared.request.Request.{Request}
 use Rattle.states.specs.declared.answers.Outcome.{Outcome}
 use Rattle.states.specs.Answers.{toldArrival, toldTaken, toldReported, toldClosing}
-use Rattle.connection.specs.Record.{arriveOf, takeOf, reportOf, closeOf}
-use Rattle.connection.proofs.record.Connection as T
-use Rattle.connection.proofs.record.Connection.Laws as T′
+use Rattle.record.specs.Calls.{arriveOf, takeOf, reportOf, closeOf}
+use Rattle.record.proofs.record.Connection as T
+use Rattle.record.proofs.record.Connection.Laws as T′
 use Rattle.states.proofs.request.Request as Q
 use Rattle.states.proofs.request.Request.Laws as Q′
 use Rattle.states.proofs.answers.Outcome as O
@@ -48,22 +48,21 @@ use Rattle.states.proofs.answers.Reported as P
 use Rattle.states.proofs.answers.Reported.Laws as P′
 use Rattle.states.proofs.answers.Closing as D
 use Rattle.states.proofs.answers.Closing.Laws as D′
-use Rattle.connection_in_place.proofs.arrive as arrive
-use Rattle.connection_in_place.proofs.arrive.Symbol.{name as #arrive, routine as arrive-routine}
-use Rattle.connection_in_place.proofs.arrive.Met as arrive-thm
-use Rattle.connection_in_place.proofs.take as take
-use Rattle.connection_in_place.proofs.take.Symbol.{name as #take, routine as take-routine}
-use Rattle.connection_in_place.proofs.take.Met as take-thm
-use Rattle.connection_in_place.proofs.report as report
-use Rattle.connection_in_place.proofs.report.Symbol.{name as #report, routine as report-routine}
-use Rattle.connection_in_place.proofs.report.Met as report-thm
-use Rattle.connection_in_place.proofs.close as close
-use Rattle.connection_in_place.proofs.close.Symbol.{name as #close, routine as close-routine}
-use Rattle.connection_in_place.proofs.close.Met as close-thm
-use Rattle.connection_in_place.proofs.Lending.{vals, lies-in}
+use Rattle.connection.proofs.arrive as arrive
+use Rattle.connection.proofs.arrive.Symbol.{name as #arrive, routine as arrive-routine}
+use Rattle.connection.proofs.arrive.Met as arrive-thm
+use Rattle.connection.proofs.take as take
+use Rattle.connection.proofs.take.Symbol.{name as #take, routine as take-routine}
+use Rattle.connection.proofs.take.Met as take-thm
+use Rattle.connection.proofs.report as report
+use Rattle.connection.proofs.report.Symbol.{name as #report, routine as report-routine}
+use Rattle.connection.proofs.report.Met as report-thm
+use Rattle.connection.proofs.close as close
+use Rattle.connection.proofs.close.Symbol.{name as #close, routine as close-routine}
+use Rattle.connection.proofs.close.Met as close-thm
 use Rattle.calls.specs.declared.conversation.Heard.{Heard}
 use Rattle.calls.specs.Private.Conversation.{after, round, conversation, told}
-use Rattle.calls.proofs.OnePlace.{Plain, row, spell, Fits, typed, ref, Callee, asks, asks-more, room-of, calls-on}
+use Rattle.calls.proofs.OnePlace.{vals, Plain, row, spell, Fits, typed, ref, Callee, asks, asks-more, lies-in, room-of, calls-on}
 use Rattle.calls.proofs.conversation.Heard as U
 use Rattle.calls.proofs.conversation.Heard.Laws as U′
 use Rattle.calls.proofs.conversation.hold.Key.{name as #this}
@@ -176,7 +175,7 @@ hold-spec 𝓤 H 𝓜 𝓖 𝓡 =
     entered 𝓤 H (tripleOf 𝓤 H (𝓖 .A) this.signature (this.spec 𝓤 H (𝓖 .A) (𝓜 .mem) (𝓡 .run)))
     (tables 𝓤 H 𝓜 𝓡 code.env .C) (tables 𝓤 H 𝓜 𝓡 code.env .Λ) #this code.function (code.unfolded 𝓤 H 𝓜 𝓡)
     (meets 𝓤 H (𝓖 .A) (givenOf 𝓤 H 𝓜 𝓖) (𝓜 .mem) (𝓡 .run) (tablesOf 𝓤 H 𝓜 (tables 𝓤 H 𝓜 𝓡 code.env))
-    (cited 𝓤 H (tripleOf 𝓤 H (𝓖 .A) arrive.signature (arrive.spec 𝓤 H (𝓖 .A) (𝓜 .mem) (𝓡 .run))) 𝓜 𝓡 code.env #arrive arrive-routine code.calls-connection-in-place·arrive (arrive-thm.met 𝓤 H 𝓜 𝓖 𝓡))
-    (cited 𝓤 H (tripleOf 𝓤 H (𝓖 .A) take.signature (take.spec 𝓤 H (𝓖 .A) (𝓜 .mem) (𝓡 .run))) 𝓜 𝓡 code.env #take take-routine code.calls-connection-in-place·take (take-thm.met 𝓤 H 𝓜 𝓖 𝓡))
-    (cited 𝓤 H (tripleOf 𝓤 H (𝓖 .A) report.signature (report.spec 𝓤 H (𝓖 .A) (𝓜 .mem) (𝓡 .run))) 𝓜 𝓡 code.env #report report-routine code.calls-connection-in-place·report (report-thm.met 𝓤 H 𝓜 𝓖 𝓡))
-    (cited 𝓤 H (tripleOf 𝓤 H (𝓖 .A) close.signature (close.spec 𝓤 H (𝓖 .A) (𝓜 .mem) (𝓡 .run))) 𝓜 𝓡 code.env #close close-routine code.calls-connection-in-place·close (close-thm.met 𝓤 H 𝓜 𝓖 𝓡)))
+    (cited 𝓤 H (tripleOf 𝓤 H (𝓖 .A) arrive.signature (arrive.spec 𝓤 H (𝓖 .A) (𝓜 .mem) (𝓡 .run))) 𝓜 𝓡 code.env #arrive arrive-routine code.calls-connection·arrive (arrive-thm.met 𝓤 H 𝓜 𝓖 𝓡))
+    (cited 𝓤 H (tripleOf 𝓤 H (𝓖 .A) take.signature (take.spec 𝓤 H (𝓖 .A) (𝓜 .mem) (𝓡 .run))) 𝓜 𝓡 code.env #take take-routine code.calls-connection·take (take-thm.met 𝓤 H 𝓜 𝓖 𝓡))
+    (cited 𝓤 H (tripleOf 𝓤 H (𝓖 .A) report.signature (report.spec 𝓤 H (𝓖 .A) (𝓜 .mem) (𝓡 .run))) 𝓜 𝓡 code.env #report report-routine code.calls-connection·report (report-thm.met 𝓤 H 𝓜 𝓖 𝓡))
+    (cited 𝓤 H (tripleOf 𝓤 H (𝓖 .A) close.signature (close.spec 𝓤 H (𝓖 .A) (𝓜 .mem) (𝓡 .run))) 𝓜 𝓡 code.env #close close-routine code.calls-connection·close (close-thm.met 𝓤 H 𝓜 𝓖 𝓡)))

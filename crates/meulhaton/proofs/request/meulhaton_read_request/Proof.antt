@@ -2,7 +2,7 @@
 use mathlib.Core.Path.{sym, ap, _∙_}
 use Prim.Native.Nat.{ℕ}
 use borrow.Author.Needs.{needs}
-use Rattle.meulhaton.specs.Requests.{requestAnswer}
+use Rattle.meulhaton_fields.specs.Requests.{requestAnswer}
 use Rattle.requests.specs.Requests.{requestOf}
 use Rattle.requests.specs.declared.request.Request.{Request}
 use Rattle.refusal.specs.Answer.{Answer}

@@ -4,13 +4,13 @@ use borrow.Author.Tests.{not-true, not-false}
 use Prim.Native.Nat.{ℕ}
 use mathlib.Core.List.{List}
 use borrow.Author.Needs.{needs}
-use Rattle.meulhaton.specs.Summaries.{summaryOf, isSummary, summaryForm}
+use Rattle.meulhaton_calls.specs.Summaries.{summaryOf, isSummary, summaryForm}
 use Rattle.refusal.specs.Answer.{Answer, result, refused, left}
 use Rattle.packing.specs.Packing.{fitted, leaves, telling}
 use Rattle.summaries.specs.Summaries.{packSummary}
 use Rattle.states.specs.declared.answers.Summary.{Summary}
 use Rattle.meulhaton.specs.Wire.{outputOf}
-use Rattle.meulhaton.proofs.Choices.{chosen, other}
+use Rattle.meulhaton_calls.proofs.Choices.{chosen, other}
 use Rattle.meulhaton.proofs.summary.meulhaton_pack_summary.Statement.{statement}
 use Rattle.meulhaton.proofs.summary.meulhaton_pack_summary.Tie as tie
 

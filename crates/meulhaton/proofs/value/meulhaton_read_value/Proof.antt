@@ -1,7 +1,7 @@
 -- `meulhaton::value::meulhaton_read_value` meets its contract. Assumes nothing.
 use mathlib.Core.Path.{ap, _∙_}
 use borrow.Author.Needs.{needs}
-use Rattle.meulhaton.specs.Values.{valueAnswer}
+use Rattle.meulhaton_fields.specs.Values.{valueAnswer}
 use Rattle.meulhaton.proofs.value.meulhaton_read_value.Statement.{statement}
 use Rattle.meulhaton.proofs.value.meulhaton_read_value.Tie as tie
 

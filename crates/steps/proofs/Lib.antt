@@ -1,0 +1,4 @@
+pub mod Calls
+pub mod Leaving
+pub mod Outcomes
+pub mod Removing
