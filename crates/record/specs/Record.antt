@@ -52,7 +52,7 @@ kept c = record {
 }
 
 -- ---- the standing rules
--- the bounds: the control names a state and a truth value, "first < 32 and waiting at most 32", at most 8 open
+-- "the ring's own bounds", and those of the other numbers: the control names a state and a truth value, and at most 8 are open
 unfoldable pub bounded : Control → Bool
 bounded k = isState (k .state) && (leb (k .«in_flight») 1 && (ltb (k .first) 32 && (leb (k .waiting) 32 && leb (k .opened) 8)))
 

@@ -1,5 +1,5 @@
 // The record of one connection: a small control, which every call is given by value, and arrays, which the calls are lent where they lie.
-// Document 01, "Connection record"; document 02, request 9. All of it are numbers, so that C and Rust hold the record itself.
+// Document 01, "Connection record"; document 02, request 9. All of it is numbers, so that C and Rust hold the record itself.
 ghost use mathlib.Core.Path.{_≡_};
 ghost use Rattle.record.specs.Record.{fresh as freshRecord};
 
