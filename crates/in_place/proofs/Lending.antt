@@ -5,7 +5,7 @@
 -- lent, and over what the step and the function ensure. A walk knows of the step only that it meets its contract.
 --     Five T K A B C D   T is a struct of the control K and of A, B, C and D
 --     Lends              a function of this kind: its types, and how each field is lent
---     Ensures, Gives     what the step ensures; and that the function's contract follows
+--     Step-ensures       what the step ensures; `Gives`: and what the function ensures follows
 --     lent, lent-with    the function meets its contract, where the step meets its own. `lent-with` has a further argument, and passes it on
 -- Assumes nothing.
 use mathlib.Core.Path.{_≡_, refl, sym, _∙_, ap}
@@ -19,14 +19,15 @@ use mir.Syntax.{Name, Sym, Ty, tyStruct, tyRef, Mutability, mut, Tys, tcons, tni
 use mir.Val.{Val, vptr, Vals, vstruct, vcons, vnil}
 use base.Logic.{SProp, ent, sep, ex, guard, emp, all as all-of, wand, allE, apply∗, id⊢}
 use base.Fml.{GName, Lft, Fml, ftrue, fat, flft}
-use prog.Memory.{Memory, fieldAt}
-use prog.Model.{fieldsAt}
-use prog.Routine.{Routine}
-use prog.Wp.{Heap}
+use prog.Memory.{fieldAt}
+use prog.Model.{Model, fieldsAt}
+use prog.Routine.{Env}
+use prog.Wp.{Heap, Calls, Closed}
 use ghost.Atoms.{Atoms, sem}
 use contract.Lifetimes.{Lfts}
-use contract.Monad.{Fun, fact}
-use types.Kit.{Given, Item, mean, ‵, raw, given, some, later, _⊛_, _$_, _∵_, !, qed, by, move, keep, drop, use0, use1, use2, split, join, pick, learn, rewrite, fsplit, fsplit3, fjoin, frame, await, updating, now as at-once, show, check, done}
+use contract.Monad.{fact}
+use contract.Running.{Running, GhostRules, tables}
+use types.Kit.{Given, Item, mean, ‵, raw, given, some, later, _⊛_, _$_, _∵_, !, qed, by, move, keep, drop, use0, use1, use2, split, join, pick, learn, rewrite, fsplit, fsplit3, fjoin, fjoin3, feqI, frame, await, updating, now as at-once, show, check, done}
 use types.Run.{look, init, forget, stop, hop, fld, from, load, addr, of-opd, and-then, no-more, assigns, land, returns, enter, alloc1, alloc0, params1, pass1, pass0, free1, free0}
 use types.Part.{whole, sub, look-in, store-in}
 use denote.RattleType.{owns}
@@ -39,12 +40,12 @@ use denote.Steps.{only, opens, closes, owned, peeks, heard, nothing}
 use denote.Struct.Steps.{spelt}
 use denote.Triple.Entry.{Args}
 use denote.Triple.Spec.{tripleOf}
-use denote.Triple.Statement.{Contract}
+use denote.Triple.Statement.{Contract, Triple}
 use denote.Triple.Call.{calls-at}
 use denote.Triple.Clauses.{Clauses, Ended, Lasts, ensured, lasts, closing}
 use denote.Triple.End.{all}
-use Rattle.in_place.proofs.InPlace.{Plain, Two, two, typed, out, back, slots, Values, values, AreAt, owning, value, places, Claims, entry, ending, exits, Walked, Met, walk-holds}
-use Rattle.in_place.proofs.Lent.{Ref, after, last, Kept, Fits, lent-at, lend, comes-back}
+use Rattle.in_place.proofs.InPlace.{Plain, Fits, Two, two, typed, out, back, slots, Values, values, AreAt, owning, value, places, owned-still, Cited, knows, Ensures, Called-on, exits, Walked, walk-holds}
+use Rattle.in_place.proofs.Lent.{Ref, after, last, Kept, lent-at, lend, comes-back}
 
 -- ---- the record, and the function
 abbrev laid-out : (K A B C D : Plain) → Tys
@@ -202,16 +203,15 @@ module _ (z : Lends) (Xs : List Plain) where
   stored y = joined (gave .left (y .result)) (y .a) (y .b) (y .c) (y .d)
 
   -- what the step ensures of the record, the further arguments and what it leaves
-  abbrev pub Ensures : Type 1
-  Ensures = (κs : Lfts 4) → T .row .Denot → Values 4 κs Xs → Left → Type 0
+  abbrev pub Step-ensures : Type 1
+  Step-ensures = (κs : Lfts 4) → T .row .Denot → Values 4 κs Xs → Left → Type 0
 
-  -- and the function's contract follows of it
-  abbrev pub Gives : Claims T R Xs → Ensures → Type 2
-  Gives claims S = (M : Type 1) (𝓤 : URA M) (H : Heap 𝓤) (𝓐 : Atoms 𝓤) (mem″ : Memory → SProp 𝓤) (run″ : Routine → Fun 𝓤) (κ : Lft) (p o : ℕ) (γ : GName) (h : T .row .Denot) (xs : Values 1 (κ, tt) Xs)
-      (g : claims M 𝓤 H 𝓐 mem″ run″ (κ, tt) (entry T R Xs κ p o γ h xs) .ghost) (κs : Lfts 4) (y : Left) → S κs (joined (control h) (first h) (second h) (third h) (fourth h)) (pass (κ, tt) κs Xs xs) y
-      → ent 𝓤 (emp 𝓤) (claims M 𝓤 H 𝓐 mem″ run″ (κ, tt) (entry T R Xs κ p o γ h xs) .ensures g (gave .right (y .result)) (ending T R Xs κ p o γ h xs (stored y)))
+  -- and what the function ensures follows of it
+  abbrev pub Gives : Ensures T R Xs → Step-ensures → Type 0
+  Gives Q S = (κ : Lft) (h : T .row .Denot) (xs : Values 1 (κ, tt) Xs) (κs : Lfts 4) (y : Left) → S κs (joined (control h) (first h) (second h) (third h) (fourth h)) (pass (κ, tt) κs Xs xs) y
+      → Q (κ, tt) h xs (gave .right (y .result)) (stored y)
 
-  module _ (S : Ensures) (M : Type 1) (𝓤 : URA M) (H : Heap 𝓤) (𝓐 : Atoms 𝓤) where
+  module _ (S : Step-ensures) (M : Type 1) (𝓤 : URA M) (H : Heap 𝓤) (𝓐 : Atoms 𝓤) where
     abbrev step-says : Clauses 𝓤 called
     step-says κs a = record {
       ghost = Unit {0};
@@ -290,15 +290,24 @@ module _ (z : Lends) (Xs : List Plain) where
           move ! (0 ∷ 4 ∷ []) $ join ! $ move ! (1 ∷ 0 ∷ []) $ join ! $ move ! (1 ∷ 0 ∷ []) $ join ! $ move ! (1 ∷ 0 ∷ []) $ join ! $ move ! (1 ∷ 0 ∷ []) $ join ! $
           use1 W (‵ (Cell z 𝓤 H 𝓐 W p o (control h) (y .a) (y .b) (y .c) (y .d))) (together z 𝓤 H 𝓐 W p o (control h) (y .a) (y .b) (y .c) (y .d)) $ at-once ! $ show ! (λ (y : Left). guard 𝓤 (Came n v y) (sem 𝓤 H 𝓐 (Cell z 𝓤 H 𝓐 W p o (control h) (y .a) (y .b) (y .c) (y .d)))) y $ check ! (e, (is, (fits-A, (fits-B, (fits-C, fits-D))))) $ done !))))))))
 
+  -- that the step meets its contract
+  abbrev Knows : Step-ensures → Name → (M : Type 1) (𝓤 : URA M) (H : Heap 𝓤) → Atoms 𝓤 → Calls 𝓤 H → Type 1
+  Knows S #step M 𝓤 H 𝓐 𝓒 = Triple 𝓤 (𝓒 #step) (Called S M 𝓤 H 𝓐)
+
+  -- the function, whose code is `env #this`, meets its contract, where the step meets its own
+  abbrev Met : Ensures T R Xs → Step-ensures → List Opd → {M : Type 1} → URA M → Type 2
+  Met Q S opds {M} 𝓤 = (H : Heap 𝓤) (𝓜 : Model 𝓤 H) (𝓖 : GhostRules 𝓤 H) (𝓡 : Running 𝓤 H 𝓜) (env : Env) (#this : Name) (step : Cited 𝓤 H 𝓜 𝓡 env (Called S M 𝓤 H (𝓖 .A)))
+      → Closed 𝓤 H (tables 𝓤 H 𝓜 𝓡 env .C) (tables 𝓤 H 𝓜 𝓡 env .Λ) #this (code opds (step .name)) → Triple 𝓤 (𝓡 .run (env #this)) (Called-on T R Xs Q M 𝓤 H (𝓖 .A))
+
 -- ---- the walks
 -- fn(_1: &mut T) -> R { _3 = (*_1).0; _4 = &(*_1).1; .. _7 = &(*_1).4; _2 = step(_3, _4, _5, _6, _7); (*_1).0 = _2.0; _0 = _2.1; return }
 module _ (z : Lends) where
   open Lends z using (T, K, U, R, parts, gave)
   open Five parts using (control, first, second, third, fourth, joined)
 
-  module _ (claims : Claims T R []) (S : Ensures z []) (gives : Gives z [] claims S) where
-    lent-walk : Walked T R [] claims (Called z [] S) (code z [] [])
-    lent-walk M 𝓤 H 𝓐 mem″ run″ W #step κ q p o γ h xs g are 𝓒 Λ fm known =
+  module _ (Q : Ensures T R []) (S : Step-ensures z []) (gives : Gives z [] Q S) where
+    lent-walk : (#step : Name) → Walked T R [] Q owned-still (Knows z [] S #step) (code z [] [] #step)
+    lent-walk #step M 𝓤 H 𝓐 W κ q p o γ h xs are 𝓒 Λ fm known =
         qed W ((‵ (flft κ q) ⊛ ‵ ftrue) ∷ ‵ (owns (MutRef (named 0) κ (T .row) ∷ []) (record { ptr = (p, o); name = γ; now = h }, xs) (vptr p o ∷ [], values 1 (κ, tt) [] xs)) ∷ []) ∵ split ! $ move ! (2 ∷ []) $ fsplit ! $ fsplit3 ! $ drop ! $ move ! (0 ∷ 1 ∷ 3 ∷ []) $
         enter ! 𝓒 Λ (code z [] [] #step) _ _ $ alloc1 ! (λ l₀. alloc1 ! (λ l₁. alloc1 ! (λ l₂. alloc1 ! (λ l₃. alloc1 ! (λ l₄. alloc1 ! (λ l₅. alloc1 ! (λ l₆. alloc1 ! (λ l₇. alloc0 ! $ params1 ! $ pass1 ! (init ! 12 refl (tt, tt)) $ pass0 ! $
         move ! (16 ∷ 17 ∷ 18 ∷ []) $ opens ! tt (T .row) {h = h} p o (λ vs. spelt ! (T .row) (Is (T .row)) (shows 𝓤 H 𝓐 (T .row)) (λ y. T .val y ∷ []) (T .tells) fullShare h vs p o $
@@ -320,19 +329,19 @@ module _ (z : Lends) where
         owned ! (T .row) (Is (T .row)) (T .makes 𝓤 H 𝓐) (stored z [] y) _ (parts .owes (gave .left (y .result)) (y .a) (y .b) (y .c) (y .d) (gave .are (y .result) _ (came .1 .0) .0, came .1 .1)) $ move ! (1 ∷ 0 ∷ []) $ closes ! tt (T .row) (stored z [] y) (T .val (stored z [] y) ∷ []) p o $
         returns ! (look ! 17 refl) $ forget ! 3 refl $ forget ! 5 refl $ forget ! 7 refl $ forget ! 9 refl $ forget ! 11 refl $ forget ! 13 refl $ forget ! 15 refl $ forget ! 17 refl $
         move ! (17 ∷ 18 ∷ []) $ free1 ! $ move ! (15 ∷ 16 ∷ []) $ free1 ! $ move ! (13 ∷ 14 ∷ []) $ free1 ! $ move ! (11 ∷ 12 ∷ []) $ free1 ! $ move ! (9 ∷ 10 ∷ []) $ free1 ! $ move ! (7 ∷ 8 ∷ []) $ free1 ! $ move ! (5 ∷ 6 ∷ []) $ free1 ! $ move ! (3 ∷ 4 ∷ []) $ free1 ! $ free0 ! $
-        keep ! (0 ∷ 1 ∷ 2 ∷ []) $ by ! (exits T R [] claims M 𝓤 H 𝓐 mem″ run″ W κ q p o γ h xs g are (gave .right (y .result)) (stored z [] y) (gives M 𝓤 H 𝓐 mem″ run″ κ p o γ h xs g (lfts n) y (came .0)) (gave .are (y .result) _ (came .1 .0) .1 .0))))))))))))))))
+        keep ! (0 ∷ 1 ∷ 2 ∷ []) $ feqI ! (List Val) (vptr p o ∷ []) (vptr p o ∷ []) refl $ fjoin3 ! $ by ! (exits T R [] Q M 𝓤 H 𝓐 W κ q p o γ h xs owned-still are (gave .right (y .result)) (stored z [] y) (gives κ h xs (lfts n) y (came .0)) (gave .are (y .result) _ (came .1 .0) .1 .0))))))))))))))))
 
-    pub lent : {M : Type 1} (𝓤 : URA M) → Met T R [] claims (Called z [] S) (code z [] []) 𝓤
-    lent = walk-holds T R [] claims (Called z [] S) (code z [] []) lent-walk
+    pub lent : {M : Type 1} (𝓤 : URA M) → Met z [] Q S [] 𝓤
+    lent 𝓤 H 𝓜 𝓖 𝓡 env #this step unfolded = walk-holds T R [] Q owned-still (Knows z [] S (step .name)) (code z [] [] (step .name)) (lent-walk (step .name)) 𝓤 H 𝓜 𝓖 𝓡 env #this unfolded (knows step)
 
 -- fn(_1: &mut T, _2: X) -> R { _4 = (*_1).0; _5 = &(*_1).1; .. _8 = &(*_1).4; _3 = step(_4, _5, _6, _7, _8, _2); (*_1).0 = _3.0; _0 = _3.1; return }
 module _ (z : Lends) (X : Plain) where
   open Lends z using (T, K, U, R, parts, gave)
   open Five parts using (control, first, second, third, fourth, joined)
 
-  module _ (claims : Claims T R (X ∷ [])) (S : Ensures z (X ∷ [])) (gives : Gives z (X ∷ []) claims S) where
-    lent-with-walk : Walked T R (X ∷ []) claims (Called z (X ∷ []) S) (code z (X ∷ []) (copy (place 2 []) ∷ []))
-    lent-with-walk M 𝓤 H 𝓐 mem″ run″ W #step κ q p o γ h xs g are 𝓒 Λ fm known =
+  module _ (Q : Ensures T R (X ∷ [])) (S : Step-ensures z (X ∷ [])) (gives : Gives z (X ∷ []) Q S) where
+    lent-with-walk : (#step : Name) → Walked T R (X ∷ []) Q owned-still (Knows z (X ∷ []) S #step) (code z (X ∷ []) (copy (place 2 []) ∷ []) #step)
+    lent-with-walk #step M 𝓤 H 𝓐 W κ q p o γ h xs are 𝓒 Λ fm known =
         qed W ((‵ (flft κ q) ⊛ ‵ ftrue) ∷ ‵ (owns (MutRef (named 0) κ (T .row) ∷ X .row ∷ []) (record { ptr = (p, o); name = γ; now = h }, xs) (vptr p o ∷ [], values 1 (κ, tt) (X ∷ []) xs)) ∷ []) ∵ split ! $ move ! (2 ∷ []) $ fsplit ! $ fsplit3 ! $ drop ! $ move ! (0 ∷ 1 ∷ 3 ∷ []) $
         enter ! 𝓒 Λ (code z (X ∷ []) (copy (place 2 []) ∷ []) #step) _ _ $ alloc1 ! (λ l₀. alloc1 ! (λ l₁. alloc1 ! (λ l₂. alloc1 ! (λ l₃. alloc1 ! (λ l₄. alloc1 ! (λ l₅. alloc1 ! (λ l₆. alloc1 ! (λ l₇. alloc1 ! (λ l₈. alloc0 ! $ params1 ! $ pass1 ! (init ! 14 refl (tt, tt)) $ pass1 ! (init ! 12 refl (typed 𝓤 H 𝓐 W X (X .mir) (X .one) (xs .0) _ (are .0))) $ pass0 ! $
         move ! (18 ∷ 19 ∷ 20 ∷ []) $ opens ! tt (T .row) {h = h} p o (λ vs. spelt ! (T .row) (Is (T .row)) (shows 𝓤 H 𝓐 (T .row)) (λ y. T .val y ∷ []) (T .tells) fullShare h vs p o $
@@ -354,7 +363,8 @@ module _ (z : Lends) (X : Plain) where
         owned ! (T .row) (Is (T .row)) (T .makes 𝓤 H 𝓐) (stored z (X ∷ []) y) _ (parts .owes (gave .left (y .result)) (y .a) (y .b) (y .c) (y .d) (gave .are (y .result) _ (came .1 .0) .0, came .1 .1)) $ move ! (1 ∷ 0 ∷ []) $ closes ! tt (T .row) (stored z (X ∷ []) y) (T .val (stored z (X ∷ []) y) ∷ []) p o $
         returns ! (look ! 19 refl) $ forget ! 3 refl $ forget ! 5 refl $ forget ! 7 refl $ forget ! 9 refl $ forget ! 11 refl $ forget ! 13 refl $ forget ! 15 refl $ forget ! 17 refl $ forget ! 19 refl $
         move ! (19 ∷ 20 ∷ []) $ free1 ! $ move ! (17 ∷ 18 ∷ []) $ free1 ! $ move ! (15 ∷ 16 ∷ []) $ free1 ! $ move ! (13 ∷ 14 ∷ []) $ free1 ! $ move ! (11 ∷ 12 ∷ []) $ free1 ! $ move ! (9 ∷ 10 ∷ []) $ free1 ! $ move ! (7 ∷ 8 ∷ []) $ free1 ! $ move ! (5 ∷ 6 ∷ []) $ free1 ! $ move ! (3 ∷ 4 ∷ []) $ free1 ! $ free0 ! $
-        keep ! (0 ∷ 1 ∷ 2 ∷ []) $ by ! (exits T R (X ∷ []) claims M 𝓤 H 𝓐 mem″ run″ W κ q p o γ h xs g are (gave .right (y .result)) (stored z (X ∷ []) y) (gives M 𝓤 H 𝓐 mem″ run″ κ p o γ h xs g (lfts n) y (came .0)) (gave .are (y .result) _ (came .1 .0) .1 .0)))))))))))))))))
+        keep ! (0 ∷ 1 ∷ 2 ∷ []) $ feqI ! (List Val) (vptr p o ∷ []) (vptr p o ∷ []) refl $ fjoin3 ! $ by ! (exits T R (X ∷ []) Q M 𝓤 H 𝓐 W κ q p o γ h xs owned-still are (gave .right (y .result)) (stored z (X ∷ []) y) (gives κ h xs (lfts n) y (came .0)) (gave .are (y .result) _ (came .1 .0) .1 .0)))))))))))))))))
 
-    pub lent-with : {M : Type 1} (𝓤 : URA M) → Met T R (X ∷ []) claims (Called z (X ∷ []) S) (code z (X ∷ []) (copy (place 2 []) ∷ [])) 𝓤
-    lent-with = walk-holds T R (X ∷ []) claims (Called z (X ∷ []) S) (code z (X ∷ []) (copy (place 2 []) ∷ [])) lent-with-walk
+    pub lent-with : {M : Type 1} (𝓤 : URA M) → Met z (X ∷ []) Q S (copy (place 2 []) ∷ []) 𝓤
+    lent-with 𝓤 H 𝓜 𝓖 𝓡 env #this step unfolded =
+        walk-holds T R (X ∷ []) Q owned-still (Knows z (X ∷ []) S (step .name)) (code z (X ∷ []) (copy (place 2 []) ∷ []) (step .name)) (lent-with-walk (step .name)) 𝓤 H 𝓜 𝓖 𝓡 env #this unfolded (knows step)

@@ -28,7 +28,7 @@ use denote.Ref.{RefT, MutRef, ShrRef, refCoded}
 use denote.Lend.{lends-ref, ref-back, lends-shr}
 use denote.Steps.{only, owned, peeks}
 use borrow.Table.OneValue.{One, part-in-at, part-out-at}
-use Rattle.in_place.proofs.InPlace.{Plain}
+use Rattle.in_place.proofs.InPlace.{Plain, Fits}
 
 -- ---- a reference of either kind
 module _ (R : RattleType) where
@@ -62,10 +62,6 @@ Ref m ℓ κ R = record {
 -- the value that comes back, of what is bound for the reference at exit
 abbrev pub last : (R : RattleType) (m : Mutability) (ℓ : Lifetime) (x : RefT (R .Denot)) → Last (exit-by R m ℓ yes) x → R .Denot
 last R m ℓ x w = after R m ℓ x (see (exit-by R m ℓ yes) x w)
-
--- a value's own machine value is one of it
-abbrev pub Fits : (P : Plain) → P .row .Denot → Type 0
-Fits P x = Is (P .row) x (P .val x ∷ [])
 
 abbrev pub lent-at : {X : Type 0} → ℕ → ℕ → GName → X → RefT X
 lent-at b o γ x = record { ptr = (b, o); name = γ; now = x }

@@ -1,2 +1,2 @@
-// Calls on a record that stays where it lies and lends its fields. There is no code here: the walk of such a call stands in proofs/Lending.antt,
-// and the crates that have such calls cite it.
+// Calls on a record that stays where it lies. There is no code here: the walks of such calls stand in proofs/Lending.antt and
+// proofs/Passing.antt, and the crates that have such calls cite them.

@@ -19,7 +19,7 @@ use Rattle.record.specs.Names.{stateOf, isState, isRequest}
 use Rattle.record.specs.Record.{keepsRules, fresh}
 use Rattle.claims.specs.Calls.{run, events}
 use Rattle.meulhaton_fields.specs.Requests.{requestImage}
-use Rattle.meulhaton_calls.specs.declared.calls.OutcomeImage.{OutcomeImage}
+use Rattle.meulhaton_calls.specs.declared.arguments.OutcomeImage.{OutcomeImage}
 use Rattle.meulhaton_calls.specs.declared.replies.Reply.{Reply}
 use Rattle.meulhaton_calls.specs.Replies.{summaryImage, replyOf}
 use Rattle.meulhaton_calls.specs.Calls as C

@@ -1,10 +1,14 @@
-// The calls on a connection record that the caller owns and that stays where it lies. Each call checks the record before anything else: 24
-// where it breaks a standing rule. A refused call leaves the record as it was.
+// The calls on a connection record that the caller owns and that stays where it lies: `connection`'s, with requests, outcomes and answers as
+// numbers. Each call checks the record before anything else: 24 where it breaks a standing rule. A refused call leaves the record as it was.
 ghost use mathlib.Core.Path.{_≡_};
 ghost use Rattle.record.specs.Record.{fresh as freshRecord};
-ghost use Rattle.meulhaton_calls.specs.Calls.{callOn, arrive, take, report, close};
-use meulhaton_calls::calls::OutcomeImage;
+ghost use Rattle.record.specs.Calls.{reportOf};
+ghost use Rattle.meulhaton_calls.specs.Calls.{outcomeOf, inNumbers, unnamedOf, callOn, arrive, take, report, close};
+use meulhaton_calls::arguments;
+use meulhaton_calls::arguments::OutcomeImage;
+use meulhaton_calls::replies;
 use meulhaton_calls::replies::Reply;
+use meulhaton_calls::unnamed;
 use meulhaton_fields::request::RequestImage;
 use record::record::Connection;
 
@@ -21,16 +25,9 @@ pub extern "C" fn meulhaton_fresh() -> Connection
 pub extern "C" fn meulhaton_arrive(connection: &mut Connection, request: RequestImage) -> Reply
     ensures { λ r. ⌜ (now (connection .exit) ≡ callOn (now (connection .entry)) (arrive request) .connection) × (r ≡ callOn (now (connection .entry)) (arrive request) .reply) ⌝ }
 {
-    let after = meulhaton_calls::calls::arrive(
-        connection.control,
-        &connection.streams,
-        &mut connection.kinds,
-        &mut connection.counts,
-        &mut connection.qids,
-        request,
-    );
-    connection.control = after.control;
-    after.reply
+    let request = arguments::arriving(request);
+    let answer = connection::arrive(connection, request);
+    replies::arrived(answer)
 }
 
 // The turn of the first request.
@@ -38,7 +35,24 @@ pub extern "C" fn meulhaton_arrive(connection: &mut Connection, request: Request
 pub extern "C" fn meulhaton_take(connection: &mut Connection) -> Reply
     ensures { λ r. ⌜ (now (connection .exit) ≡ callOn (now (connection .entry)) take .connection) × (r ≡ callOn (now (connection .entry)) take .reply) ⌝ }
 {
-    let after = meulhaton_calls::calls::take(
+    let answer = connection::take(connection);
+    replies::taken(answer)
+}
+
+// An outcome that is named.
+fn report_named(connection: &mut Connection, outcome: OutcomeImage) -> Reply
+    ensures { λ r. ⌜ (now (connection .exit) ≡ inNumbers (reportOf (now (connection .entry)) (outcomeOf (outcome .number))) .connection) × (r ≡ inNumbers (reportOf (now (connection .entry)) (outcomeOf (outcome .number))) .reply) ⌝ }
+{
+    let outcome = arguments::outcome_of(outcome);
+    let answer = connection::report(connection, outcome);
+    replies::reported(answer)
+}
+
+// An outcome whose number names none.
+fn report_unnamed(connection: &mut Connection) -> Reply
+    ensures { λ r. ⌜ (now (connection .exit) ≡ unnamedOf (now (connection .entry)) .connection) × (r ≡ unnamedOf (now (connection .entry)) .reply) ⌝ }
+{
+    let after = unnamed::step(
         connection.control,
         &connection.streams,
         &connection.kinds,
@@ -54,16 +68,10 @@ pub extern "C" fn meulhaton_take(connection: &mut Connection) -> Reply
 pub extern "C" fn meulhaton_report(connection: &mut Connection, outcome: OutcomeImage) -> Reply
     ensures { λ r. ⌜ (now (connection .exit) ≡ callOn (now (connection .entry)) (report outcome) .connection) × (r ≡ callOn (now (connection .entry)) (report outcome) .reply) ⌝ }
 {
-    let after = meulhaton_calls::calls::report(
-        connection.control,
-        &mut connection.streams,
-        &connection.kinds,
-        &connection.counts,
-        &connection.qids,
-        outcome,
-    );
-    connection.control = after.control;
-    after.reply
+    if arguments::is_outcome(outcome) {
+        return report_named(connection, outcome);
+    }
+    report_unnamed(connection)
 }
 
 // The connection ends.
@@ -71,13 +79,6 @@ pub extern "C" fn meulhaton_report(connection: &mut Connection, outcome: Outcome
 pub extern "C" fn meulhaton_close(connection: &mut Connection) -> Reply
     ensures { λ r. ⌜ (now (connection .exit) ≡ callOn (now (connection .entry)) close .connection) × (r ≡ callOn (now (connection .entry)) close .reply) ⌝ }
 {
-    let after = meulhaton_calls::calls::close(
-        connection.control,
-        &connection.streams,
-        &connection.kinds,
-        &connection.counts,
-        &connection.qids,
-    );
-    connection.control = after.control;
-    after.reply
+    let answer = connection::close(connection);
+    replies::closed(answer)
 }

@@ -3,9 +3,10 @@ use Prim.Native.Nat.{ℕ}
 use mathlib.Core.Bool.{Bool, cond}
 use mathlib.Core.List.{List}
 use lib.Dec.{eqb, leb}
-use lib.IntN.{ℤ}
+use lib.IntN.{ℤ, pos}
 use Rattle.refusal.specs.Answer.{Answer, refused}
 use Rattle.states.specs.declared.request.Request.{Request}
+use Rattle.states.specs.declared.request.Request.the-variants.{Pull}
 use Rattle.states.specs.declared.answers.Outcome.{Outcome}
 use Rattle.states.specs.declared.answers.Outcome.the-variants.{Success, More, Failure}
 use Rattle.states.specs.Table.{Table, Done, unlessDefunct, arriveT, takeT, reportT, closeT}
@@ -14,15 +15,19 @@ use Rattle.record.specs.Names.{requestOf, isRequest}
 use Rattle.record.specs.Record.{joined, kept}
 use Rattle.record.specs.Calls.{After, Storing, storing, nowhere, called}
 use Rattle.meulhaton_fields.specs.declared.request.RequestImage.{RequestImage}
-use Rattle.meulhaton_calls.specs.declared.calls.OutcomeImage.{OutcomeImage}
+use Rattle.meulhaton_calls.specs.declared.arguments.OutcomeImage.{OutcomeImage}
 use Rattle.meulhaton_calls.specs.declared.replies.Reply.{Reply}
-use Rattle.meulhaton_calls.specs.declared.replies.Replied.{Replied}
+use Rattle.meulhaton_calls.specs.declared.unnamed.Replied.{Replied}
 use Rattle.meulhaton_calls.specs.Replies.{replyOf}
 
 -- ---- what the arguments name
 -- the request of a kind, with its numbers
 abbrev pub requestIn : RequestImage → Request
 requestIn r = requestOf (r .kind) (r .n) (r .qid)
+
+-- what `arrive` is given: where the kind names no request, a PULL of no records, which is refused with the number that is due, 27
+abbrev pub arriving : RequestImage → Request
+arriving r = cond (isRequest (r .kind)) (requestIn r) (Pull (pos 0) (pos 0))
 
 -- success, success with more, failure; any other number is taken for the last
 abbrev pub outcomeOf : ℕ → Outcome
@@ -68,6 +73,10 @@ inNumbers a = record { connection = a .connection; reply = replyOf (a .answer) }
 unfoldable pub callOn : Connection → CallImage → ReplyAfter
 callOn c x = inNumbers (called (storesOf x) c (stepOn (kept c) x))
 
--- what a call on the parts of a record returns, with the arrays after it
+-- ---- a report whose outcome names none
+abbrev pub unnamedOf : Connection → ReplyAfter
+unnamedOf c = inNumbers (called nowhere c (unlessDefunct (kept c) (refused 19 0)))
+
+-- what it returns on the parts of a record, with the arrays after it
 abbrev pub toldReply : Replied → List ℕ → List ℕ → List ℤ → List ℤ → ReplyAfter
 toldReply r streams kinds counts qids = record { connection = joined (r .control) streams kinds counts qids; reply = r .reply }

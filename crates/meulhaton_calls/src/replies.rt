@@ -8,7 +8,6 @@ ghost use Rattle.states.specs.declared.answers.Summary.the-variants as variant;
 ghost use Rattle.meulhaton_calls.specs.Replies.{summaryNumbers, summaryImage, saying, replyOf};
 use meulhaton_fields::request;
 use meulhaton_fields::request::RequestImage;
-use record::record::Control;
 use refusal::Refusal;
 use states::answers::Arrival;
 use states::answers::Closing;
@@ -36,12 +35,6 @@ pub struct Reply {
     pub summary: SummaryImage,
     pub refusal: u8,
     pub said: u8,
-}
-
-// The control after a call, and its reply.
-pub struct Replied {
-    pub control: Control,
-    pub reply: Reply,
 }
 
 fn summary_numbers(kind: u8, value: u32) -> SummaryImage
@@ -165,14 +158,5 @@ pub fn closed(answer: Closing) -> Reply
     match answer {
         Closing::Closed => saying(0, 2),
         Closing::Refused(why) => refuse(why),
-    }
-}
-
-pub fn done(control: Control, reply: Reply) -> Replied
-    ensures { λ r. ⌜ r ≡ record { control = control; reply = reply } ⌝ }
-{
-    Replied {
-        control: control,
-        reply: reply,
     }
 }

@@ -2,20 +2,17 @@
 use mathlib.Core.Path.{_≡_, refl, ap}
 use mathlib.Core.List.{[]}
 use mir.Syntax.{imm}
-use base.Logic.{emp}
-use contract.Monad.{factI}
 use denote.Struct.Laws.{owed}
+use contract.Monad.{factI}
 use Rattle.record.specs.Calls.{After, takeOf}
 use Rattle.steps.specs.Steps.{toldTake}
-use Rattle.states.proofs.answers.Taken as R
-use Rattle.states.proofs.answers.Taken.Laws as R′
 use Rattle.steps.proofs.after.AfterTake as U
 use Rattle.steps.proofs.after.AfterTake.Laws as U′
 use Rattle.steps.proofs.take.step.Symbol as step
 use Rattle.steps.proofs.take.step.Met as step-thm
-use Rattle.in_place.proofs.InPlace.{Plain, of-field, Claims}
-use Rattle.in_place.proofs.Lending.{Lends, Ensures, Gives, lent}
-use Rattle.connection.proofs.Parts.{connection, lending}
+use Rattle.in_place.proofs.InPlace.{Plain, of-field, in-words}
+use Rattle.in_place.proofs.Lending.{Lends, Step-ensures, Gives, lent}
+use Rattle.connection.proofs.Parts.{connection, lending, taken, takes}
 use Rattle.connection.proofs.take as this
 use Rattle.connection.proofs.take.Key
 use Rattle.connection.proofs.take.Statement as stated
@@ -24,21 +21,18 @@ use Rattle.connection.proofs.take.Code as code
 abbrev after : Plain
 after = of-field U.the-field U′.the-field-laws U′.the-field-plain U′.the-field-copy refl
 
-abbrev answer : Plain
-answer = of-field R.the-field R′.the-field-laws R′.the-field-plain R′.the-field-copy refl
-
 abbrev lends : Lends
-lends = lending after answer (record { name = U.struct .name; left = λ r. r .control; right = λ r. r .answer; laid = refl; spells = λ r. refl; are = owed U.the-type U′.the-laws }) imm imm
+lends = lending after taken (record { name = U.struct .name; left = λ r. r .control; right = λ r. r .answer; laid = refl; spells = λ r. refl; are = owed U.the-type U′.the-laws }) imm imm
 
-abbrev claims : Claims connection answer []
-claims M 𝓤 H A mem run = this.clauses 𝓤 H A mem run
+abbrev steps : Step-ensures lends []
+steps κs h xs y = toldTake (y .result) (y .a) (y .b) (y .c) (y .d) ≡ takeOf h
 
-abbrev ensures : Ensures lends []
-ensures κs h xs y = toldTake (y .result) (y .a) (y .b) (y .c) (y .d) ≡ takeOf h
-
-gives : Gives lends [] claims ensures
-gives M 𝓤 H A mem run κ p o γ h xs g κs y e = factI 𝓤 _ (emp 𝓤) (ap (λ (w : After). w .connection) e, ap (λ (w : After). w .answer) e)
+gives : Gives lends [] takes steps
+gives κ h xs κs y e = (ap (λ (w : After). w .connection) e, ap (λ (w : After). w .answer) e)
 
 pub take-spec : {M : Type 1} → stated.statement M
 unfolding code.routine
-take-spec 𝓤 H 𝓜 𝓖 𝓡 = lent lends claims ensures gives 𝓤 H 𝓜 𝓖 𝓡 code.env Key.name step.name step.routine (code.unfolded 𝓤 H 𝓜 𝓡) code.calls-steps·take·step (step-thm.met 𝓤 H 𝓜 𝓖 𝓡)
+take-spec 𝓤 H 𝓜 𝓖 𝓡 =
+    in-words connection taken [] takes 𝓤 H 𝓜 𝓖 𝓡 (code.env Key.name) (λ κs a. this.clauses 𝓤 H (𝓖 .A) (𝓜 .mem) (𝓡 .run) κs a .ensures) (λ κs a r ws e P. factI 𝓤 _ P e)
+    (lent lends takes steps gives 𝓤 H 𝓜 𝓖 𝓡 code.env Key.name
+    (record { name = step.name; routine = step.routine; is = code.calls-steps·take·step; met = step-thm.met 𝓤 H 𝓜 𝓖 𝓡 }) (code.unfolded 𝓤 H 𝓜 𝓡))

@@ -1,35 +1,47 @@
--- `meulhaton::calls::meulhaton_arrive` meets its contract: `Lending`'s walk, where the queue's arrays are lent as `&mut` and the streams as `&`, and the request is passed on. Assumes nothing.
-use mathlib.Core.Path.{_≡_, refl, ap}
-use base.Logic.{emp}
-use contract.Monad.{factI}
+-- `meulhaton::calls::meulhaton_arrive` meets its contract: `Passing`'s walk, by way of `connection::arrive`. Assumes nothing.
+use mathlib.Core.Path.{_≡_, ap, _∙_}
 use mathlib.Core.List.{[], _∷_}
-use mir.Syntax.{imm, mut}
-use Rattle.meulhaton_calls.specs.Calls.{ReplyAfter, callOn, toldReply, arrive}
-use Rattle.meulhaton_fields.proofs.request.RequestImage as X
-use Rattle.meulhaton_fields.proofs.request.RequestImage.Laws as X′
-use Rattle.meulhaton_calls.proofs.calls.arrive.Symbol as step
-use Rattle.meulhaton_calls.proofs.calls.arrive.Met as step-thm
-use Rattle.in_place.proofs.InPlace.{Plain, of-field, Claims}
-use Rattle.in_place.proofs.Lending.{Ensures, Gives, lent-with}
-use Rattle.connection.proofs.Parts.{connection}
-use Rattle.meulhaton.proofs.Replying.{reply, lends}
+use contract.Monad.{factI}
+use Rattle.states.specs.declared.request.Request.{Request}
+use Rattle.states.specs.Answers.{toldArrival}
+use Rattle.record.specs.Calls.{arriveOf}
+use Rattle.in_place.proofs.InPlace.{Ensures, in-words}
+use Rattle.in_place.proofs.Passing.{Reads, Passes-with, passed-with}
+use Rattle.connection.proofs.Parts.{connection, arrival, arrives}
+use Rattle.connection.proofs.Parts as P
+use Rattle.connection.proofs.arrive.Symbol as on-record
+use Rattle.connection.proofs.arrive.Met as on-record-thm
+use Rattle.meulhaton_calls.specs.Replies.{replyOf}
+use Rattle.meulhaton_calls.specs.Calls.{arriving, inNumbers, callOn, arrive}
+use Rattle.meulhaton_calls.proofs.Replying.{in-numbers-arrive}
+use Rattle.meulhaton_calls.proofs.arguments.arriving.Symbol as read
+use Rattle.meulhaton_calls.proofs.arguments.arriving.Met as read-thm
+use Rattle.meulhaton_calls.proofs.replies.arrived.Symbol as told
+use Rattle.meulhaton_calls.proofs.replies.arrived.Met as told-thm
+use Rattle.meulhaton.proofs.Replying.{request, reply, Replied, in-numbers, as-call}
 use Rattle.meulhaton.proofs.calls.meulhaton_arrive as this
 use Rattle.meulhaton.proofs.calls.meulhaton_arrive.Key
 use Rattle.meulhaton.proofs.calls.meulhaton_arrive.Statement as stated
 use Rattle.meulhaton.proofs.calls.meulhaton_arrive.Code as code
 
-abbrev argument : Plain
-argument = of-field X.the-field X′.the-field-laws X′.the-field-plain X′.the-field-copy refl
+abbrev ensures : Ensures connection reply (request ∷ [])
+ensures κs h xs r w = Replied (callOn h (arrive (xs .0))) r w
 
-abbrev claims : Claims connection reply (argument ∷ [])
-claims M 𝓤 H A mem run = this.clauses 𝓤 H A mem run
+abbrev reads : Reads request P.request
+reads x y = y ≡ arriving x
 
-abbrev ensures : Ensures (lends imm mut) (argument ∷ [])
-ensures κs h xs y = toldReply (y .result) (y .a) (y .b) (y .c) (y .d) ≡ callOn h (arrive (xs .0))
+abbrev tells : Reads arrival reply
+tells a r = r ≡ replyOf (toldArrival a)
 
-gives : Gives (lends imm mut) (argument ∷ []) claims ensures
-gives M 𝓤 H A mem run κ p o γ h xs g κs y e = factI 𝓤 _ (emp 𝓤) (ap (λ (w : ReplyAfter). w .connection) e, ap (λ (w : ReplyAfter). w .reply) e)
+passes : Passes-with connection request P.request arrival reply ensures reads arrives tells
+passes κ h x y a w r d e f = as-call (ap (λ (z : Request). inNumbers (arriveOf h z)) d ∙ in-numbers-arrive h x) (in-numbers (arriveOf h y) e f)
 
 pub meulhaton-arrive-spec : {M : Type 1} → stated.statement M
 unfolding code.routine
-meulhaton-arrive-spec 𝓤 H 𝓜 𝓖 𝓡 = lent-with (lends imm mut) argument claims ensures gives 𝓤 H 𝓜 𝓖 𝓡 code.env Key.name step.name step.routine (code.unfolded 𝓤 H 𝓜 𝓡) code.calls-meulhaton-calls·calls·arrive (step-thm.met 𝓤 H 𝓜 𝓖 𝓡)
+meulhaton-arrive-spec 𝓤 H 𝓜 𝓖 𝓡 =
+    in-words connection reply (request ∷ []) ensures 𝓤 H 𝓜 𝓖 𝓡 (code.env Key.name) (λ κs a. this.clauses 𝓤 H (𝓖 .A) (𝓜 .mem) (𝓡 .run) κs a .ensures) (λ κs a r ws e P. factI 𝓤 _ P e)
+    (passed-with connection request P.request arrival reply ensures reads arrives tells passes 𝓤 H 𝓜 𝓖 𝓡 code.env Key.name
+    (record { name = read.name; routine = read.routine; is = code.calls-meulhaton-calls·arguments·arriving; met = read-thm.met 𝓤 H 𝓜 𝓖 𝓡 })
+    (record { name = on-record.name; routine = on-record.routine; is = code.calls-connection·arrive; met = on-record-thm.met 𝓤 H 𝓜 𝓖 𝓡 })
+    (record { name = told.name; routine = told.routine; is = code.calls-meulhaton-calls·replies·arrived; met = told-thm.met 𝓤 H 𝓜 𝓖 𝓡 })
+    (code.unfolded 𝓤 H 𝓜 𝓡))

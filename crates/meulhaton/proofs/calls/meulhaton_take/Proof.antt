@@ -1,30 +1,39 @@
--- `meulhaton::calls::meulhaton_take` meets its contract: `Lending`'s walk, where all arrays are lent as `&`. Assumes nothing.
-use mathlib.Core.Path.{_≡_, ap}
-use base.Logic.{emp}
-use contract.Monad.{factI}
+-- `meulhaton::calls::meulhaton_take` meets its contract: `Passing`'s walk, by way of `connection::take`. Assumes nothing.
+use mathlib.Core.Path.{_≡_}
 use mathlib.Core.List.{[]}
-use mir.Syntax.{imm}
-use Rattle.meulhaton_calls.specs.Calls.{ReplyAfter, callOn, toldReply, take}
-use Rattle.meulhaton_calls.proofs.calls.take.Symbol as step
-use Rattle.meulhaton_calls.proofs.calls.take.Met as step-thm
-use Rattle.in_place.proofs.InPlace.{Claims}
-use Rattle.in_place.proofs.Lending.{Ensures, Gives, lent}
-use Rattle.connection.proofs.Parts.{connection}
-use Rattle.meulhaton.proofs.Replying.{reply, lends}
+use contract.Monad.{factI}
+use Rattle.states.specs.Answers.{toldTaken}
+use Rattle.record.specs.Calls.{takeOf}
+use Rattle.in_place.proofs.InPlace.{Ensures, in-words}
+use Rattle.in_place.proofs.Passing.{Reads, Passes, passed}
+use Rattle.connection.proofs.Parts.{connection, taken, takes}
+use Rattle.connection.proofs.take.Symbol as on-record
+use Rattle.connection.proofs.take.Met as on-record-thm
+use Rattle.meulhaton_calls.specs.Replies.{replyOf}
+use Rattle.meulhaton_calls.specs.Calls.{callOn, take}
+use Rattle.meulhaton_calls.proofs.Replying.{in-numbers-take}
+use Rattle.meulhaton_calls.proofs.replies.taken.Symbol as told
+use Rattle.meulhaton_calls.proofs.replies.taken.Met as told-thm
+use Rattle.meulhaton.proofs.Replying.{reply, Replied, in-numbers, as-call}
 use Rattle.meulhaton.proofs.calls.meulhaton_take as this
 use Rattle.meulhaton.proofs.calls.meulhaton_take.Key
 use Rattle.meulhaton.proofs.calls.meulhaton_take.Statement as stated
 use Rattle.meulhaton.proofs.calls.meulhaton_take.Code as code
 
-abbrev claims : Claims connection reply []
-claims M 𝓤 H A mem run = this.clauses 𝓤 H A mem run
+abbrev ensures : Ensures connection reply []
+ensures κs h xs r w = Replied (callOn h take) r w
 
-abbrev ensures : Ensures (lends imm imm) []
-ensures κs h xs y = toldReply (y .result) (y .a) (y .b) (y .c) (y .d) ≡ callOn h take
+abbrev tells : Reads taken reply
+tells a r = r ≡ replyOf (toldTaken a)
 
-gives : Gives (lends imm imm) [] claims ensures
-gives M 𝓤 H A mem run κ p o γ h xs g κs y e = factI 𝓤 _ (emp 𝓤) (ap (λ (w : ReplyAfter). w .connection) e, ap (λ (w : ReplyAfter). w .reply) e)
+passes : Passes connection taken reply ensures takes tells
+passes κ h a w r e f = as-call (in-numbers-take h) (in-numbers (takeOf h) e f)
 
 pub meulhaton-take-spec : {M : Type 1} → stated.statement M
 unfolding code.routine
-meulhaton-take-spec 𝓤 H 𝓜 𝓖 𝓡 = lent (lends imm imm) claims ensures gives 𝓤 H 𝓜 𝓖 𝓡 code.env Key.name step.name step.routine (code.unfolded 𝓤 H 𝓜 𝓡) code.calls-meulhaton-calls·calls·take (step-thm.met 𝓤 H 𝓜 𝓖 𝓡)
+meulhaton-take-spec 𝓤 H 𝓜 𝓖 𝓡 =
+    in-words connection reply [] ensures 𝓤 H 𝓜 𝓖 𝓡 (code.env Key.name) (λ κs a. this.clauses 𝓤 H (𝓖 .A) (𝓜 .mem) (𝓡 .run) κs a .ensures) (λ κs a r ws e P. factI 𝓤 _ P e)
+    (passed connection taken reply ensures takes tells passes 𝓤 H 𝓜 𝓖 𝓡 code.env Key.name
+    (record { name = on-record.name; routine = on-record.routine; is = code.calls-connection·take; met = on-record-thm.met 𝓤 H 𝓜 𝓖 𝓡 })
+    (record { name = told.name; routine = told.routine; is = code.calls-meulhaton-calls·replies·taken; met = told-thm.met 𝓤 H 𝓜 𝓖 𝓡 })
+    (code.unfolded 𝓤 H 𝓜 𝓡))

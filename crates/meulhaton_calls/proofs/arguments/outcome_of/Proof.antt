@@ -1,7 +1,7 @@
--- `meulhaton_calls::calls::outcome_of` meets its contract. Assumes nothing.
+-- `meulhaton_calls::arguments::outcome_of` meets its contract. Assumes nothing.
 use borrow.Author.Tests.{eq-eqb, ne-eqb}
-use Rattle.meulhaton_calls.proofs.calls.outcome_of.Statement.{statement}
-use Rattle.meulhaton_calls.proofs.calls.outcome_of.Tie as tie
+use Rattle.meulhaton_calls.proofs.arguments.outcome_of.Statement.{statement}
+use Rattle.meulhaton_calls.proofs.arguments.outcome_of.Tie as tie
 
 returns : tie.Need-returns
 returns c = rw (eq-eqb _ _ (c .if1 .taken))

@@ -1,4 +1,4 @@
--- `meulhaton_calls::calls::requested` meets its contract. Assumes nothing.
+-- `meulhaton_calls::arguments::arriving` meets its contract. Assumes nothing.
 use borrow.Author.Needs.{needs}
 use mathlib.Core.Path.{sym, _∙_}
 use lib.IntN.{pos}
@@ -6,8 +6,8 @@ use Rattle.states.specs.declared.request.Request.the-variants.{Pull}
 use Rattle.record.specs.Names.{requestOf, isRequest}
 use Rattle.record.proofs.Numbers.{both-held}
 use Rattle.meulhaton_calls.proofs.Choices.{chosen, other}
-use Rattle.meulhaton_calls.proofs.calls.requested.Statement.{statement}
-use Rattle.meulhaton_calls.proofs.calls.requested.Tie as tie
+use Rattle.meulhaton_calls.proofs.arguments.arriving.Statement.{statement}
+use Rattle.meulhaton_calls.proofs.arguments.arriving.Tie as tie
 
 is-request-requires : tie.Need-is-request-requires
 is-request-requires c κs = search needs
@@ -27,5 +27,5 @@ returns-2 c =
     let p = c .before .before .args .image in
     other (isRequest (p .kind)) (requestOf (p .kind) (p .n) (p .qid)) (Pull (pos 0) (pos 0)) (sym (c .before .is-request .ensures) ∙ c .if1 .left)
 
-pub requested-spec : {M : Type 1} → statement M
-requested-spec = tie.close (tie.spec is-request-requires request-of-requires returns returns-2)
+pub arriving-spec : {M : Type 1} → statement M
+arriving-spec = tie.close (tie.spec is-request-requires request-of-requires returns returns-2)

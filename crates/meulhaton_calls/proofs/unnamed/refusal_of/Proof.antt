@@ -1,4 +1,4 @@
--- `meulhaton_calls::calls::unnamed_outcome` meets its contract. Assumes nothing.
+-- `meulhaton_calls::unnamed::refusal_of` meets its contract. Assumes nothing.
 use borrow.Author.Needs.{needs}
 use mathlib.Core.Path.{_≡_}
 use mathlib.Core.Bool.{true}
@@ -9,8 +9,8 @@ use Rattle.record.specs.declared.record.Connection.{Connection}
 use Rattle.record.specs.Record.{joined, kept, keepsRules}
 use Rattle.record.specs.Calls.{nowhere}
 use Rattle.steps.proofs.Calls.{breaks, keeps, state-test, broken, refuse-defunct, go-on}
-use Rattle.meulhaton_calls.proofs.calls.unnamed_outcome.Statement.{statement}
-use Rattle.meulhaton_calls.proofs.calls.unnamed_outcome.Tie as tie
+use Rattle.meulhaton_calls.proofs.unnamed.refusal_of.Statement.{statement}
+use Rattle.meulhaton_calls.proofs.unnamed.refusal_of.Tie as tie
 
 keeps-rules-requires : tie.Need-keeps-rules-requires
 keeps-rules-requires c κs = search needs
@@ -47,7 +47,7 @@ returns-3 c =
     go-on nowhere (w s) (refused 19 0) (holds d)
     (state-test (s .args .control) Defunct (c .before .before .state-of .ensures) (c .before .is-in .ensures) (c .if2 .left))
 
-pub unnamed-outcome-spec : {M : Type 1} → statement M
-unnamed-outcome-spec =
+pub refusal-of-spec : {M : Type 1} → statement M
+refusal-of-spec =
     tie.close
     (tie.spec keeps-rules-requires returns state-of-requires is-in-requires returns-2 returns-3)
