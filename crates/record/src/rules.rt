@@ -42,7 +42,7 @@ fn may_be_in_flight(
     if state::is_in(state, State::Interrupted) {
         return turn::is_work(request);
     }
-    turn::is_handed(turns::turn_of(state, streams, opened, next, request))
+    turns::is_handed_over(state, streams, opened, next, request)
 }
 
 // Outside DEFUNCT accepted = sent + waiting.

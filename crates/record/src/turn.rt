@@ -5,6 +5,7 @@ ghost use mathlib.Core.Bool.{_&&_, _||_};
 ghost use lib.Dec.{leb};
 ghost use Rattle.states.specs.Requests.{inTransaction};
 ghost use Rattle.states.specs.Table.{turnOf, namesOpen};
+ghost use Rattle.states.specs.Rules.{isHanded};
 ghost use Rattle.record.specs.Record.{openOf};
 use crate::streams;
 use states::request;
@@ -66,4 +67,26 @@ pub fn turn_of(state: State, streams: &[u64; 8], opened: usize, next: u64, reque
         return Turn::Unknown;
     }
     Turn::Handed
+}
+
+// Whether a request goes to the engine, with the first `opened` streams open.
+pub fn is_handed_over(
+    state: State,
+    streams: &[u64; 8],
+    opened: usize,
+    next: u64,
+    request: Request,
+) -> bool
+    ensures { λ r. ⌜ r ≡ isHanded (turnOf state (openOf (now (streams .entry)) opened next) request) ⌝ }
+{
+    if !turn::hands_over(state, request) {
+        return false;
+    }
+    if request::tag(request) == request::RUN {
+        return !is_full(state, streams::held(streams, opened), next);
+    }
+    if request::fetches(request) {
+        return names_open(state, streams, opened, next, request);
+    }
+    true
 }

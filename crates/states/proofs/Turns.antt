@@ -16,10 +16,19 @@ use Rattle.states.specs.Appendix.{handsOver, works}
 use Rattle.states.specs.Table.{Open, has, isFull, namesOpen, ignores, turnOf}
 use Rattle.states.specs.Rules.{isHanded}
 use Rattle.states.proofs.Bools.{by-test, or-left, or-right}
+use Rattle.states.proofs.Rows.{run-fetches, hands-running, hands-calm}
 
 pub ignores-by : (s : State) (k : Kind) {b : Bool} → isStopped s ≡ b → ignores s k ≡ (b && works k)
 unfolding ignores
 ignores-by s k p = ap (λ (b : Bool). b && works k) p
+
+unless-full : (full : Bool) → not full ≡ isHanded (cond full Full Handed)
+unless-full true = refl
+unless-full false = refl
+
+where-named : (names : Bool) → names ≡ isHanded (cond (not names) Unknown Handed)
+where-named true = refl
+where-named false = refl
 
 module _ (s : State) (o : Open) where
   pub full-by : {t a b : Bool} → inTransaction s ≡ t → leb 8 (length (o .numbers)) ≡ a → leb 65536 (o .next) ≡ b → isFull s o ≡ (t && (a || b))
@@ -42,6 +51,26 @@ module _ (s : State) (o : Open) where
         → turnOf s o r ≡ cond reset Resets (cond ignored Ignored (cond handed (cond (run && full) Full (cond (fetching && not names) Unknown Handed)) Closes))
     unfolding turnOf
     turn-by p q u v w x y = λ i. cond (p i) Resets (cond (q i) Ignored (cond (u i) (cond (v i && w i) Full (cond (x i && not (y i)) Unknown Handed)) Closes))
+
+    -- whether it is handed over
+    pub unhanded : handsOver s (kindOf r) ≡ false → isHanded (turnOf s o r) ≡ false
+    unhanded e =
+        let Not : Turn → Type 0 = λ (u : Turn). isHanded u ≡ false in
+        ap isHanded (turn-by refl refl e refl refl refl refl)
+        ∙ by-test Not (is RESET r) (λ _. refl) (λ _. by-test Not (ignores s (kindOf r)) (λ _. refl) (λ _. refl))
+
+    handed-by : {run full fetching names : Bool} → handsOver s (kindOf r) ≡ true → is RUN r ≡ run → isFull s o ≡ full → fetches r ≡ fetching → namesOpen s o r ≡ names
+        → isHanded (cond (run && full) Full (cond (fetching && not names) Unknown Handed)) ≡ isHanded (turnOf s o r)
+    handed-by h p q u v = ap isHanded (sym (turn-by (hands-calm s (kindOf r) h) (ignores-by s (kindOf r) (hands-running s (kindOf r) h)) h p q u v))
+
+    pub run-handed : {full : Bool} → handsOver s (kindOf r) ≡ true → is RUN r ≡ true → isFull s o ≡ full → not full ≡ isHanded (turnOf s o r)
+    run-handed {full} h p q = unless-full full ∙ handed-by h p q (run-fetches r p) refl
+
+    pub fetch-handed : {names : Bool} → handsOver s (kindOf r) ≡ true → is RUN r ≡ false → fetches r ≡ true → namesOpen s o r ≡ names → names ≡ isHanded (turnOf s o r)
+    fetch-handed {names} h p u v = where-named names ∙ handed-by h p refl u v
+
+    pub other-handed : handsOver s (kindOf r) ≡ true → is RUN r ≡ false → fetches r ≡ false → true ≡ isHanded (turnOf s o r)
+    other-handed h p u = handed-by h p refl u refl
 
     -- what is known of a request that is handed over
     pub handed-facts : isHanded (turnOf s o r) ≡ true → (handsOver s (kindOf r) ≡ true) × ((is RUN r && isFull s o) ≡ false)

@@ -20,12 +20,12 @@ toldArrival (A.Refused e) = refused (numberOf e) 0
 abbrev pub toldTaken : Taken → Answer Said
 toldTaken T.Idle = result idle
 toldTaken T.Closed = result closed
-toldTaken (T.Handed r number) = result (handed r number)
-toldTaken (T.Answered summary number) = result (answered summary number)
+toldTaken (T.Handed number r) = result (handed r number)
+toldTaken (T.Answered number summary) = result (answered summary number)
 toldTaken (T.Refused e) = refused (numberOf e) 0
 
 abbrev pub toldReported : Reported → Answer Said
-toldReported (R.Answered summary number) = result (answered summary number)
+toldReported (R.Answered number summary) = result (answered summary number)
 toldReported (R.Refused e) = refused (numberOf e) 0
 
 abbrev pub toldClosing : Closing → Answer Said

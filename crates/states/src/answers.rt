@@ -38,14 +38,14 @@ pub enum Taken {
     Idle,
     Closed,
     // For the engine, which is to report on it.
-    Handed { request: Request, number: u64 },
+    Handed { number: u64, request: Request },
     // For the client: the summary of the request with this number.
-    Answered { summary: Summary, number: u64 },
+    Answered { number: u64, summary: Summary },
     Refused(Refusal),
 }
 
 pub enum Reported {
-    Answered { summary: Summary, number: u64 },
+    Answered { number: u64, summary: Summary },
     Refused(Refusal),
 }
 

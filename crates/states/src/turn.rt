@@ -7,7 +7,6 @@ ghost use mathlib.Core.Path.{_≡_};
 ghost use Rattle.states.specs.Requests.{kindOf};
 ghost use Rattle.states.specs.Appendix.{handsOver, works};
 ghost use Rattle.states.specs.Table.{ignores};
-ghost use Rattle.states.specs.Rules.{isHanded};
 
 pub enum Turn {
     // The connection closes, with no summary.
@@ -62,18 +61,4 @@ pub fn is_ignored(state: State, request: Request) -> bool
     ensures { λ r. ⌜ r ≡ ignores state (kindOf request) ⌝ }
 {
     state::is_stopped(state) && is_work(request)
-}
-
-// Whether it goes to the engine.
-pub fn is_handed(turn: Turn) -> bool
-    ensures { λ r. ⌜ r ≡ isHanded turn ⌝ }
-{
-    match turn {
-        Turn::Closes => false,
-        Turn::Resets => false,
-        Turn::Ignored => false,
-        Turn::Handed => true,
-        Turn::Full => false,
-        Turn::Unknown => false,
-    }
 }

@@ -136,7 +136,7 @@ module _ (c : Connection) where
         ∙ by-turn U.Closes u
 
     -- it is answered, with no stream open
-    clears : (s : State) (m : Summary) {a : AfterTake} → a ≡ record { control = answeredIn k s 0 (k .next) (k .waiting - 1); answer = Taken.Answered m (numberAfter (k .sent)) }
+    clears : (s : State) (m : Summary) {a : AfterTake} → a ≡ record { control = answeredIn k s 0 (k .next) (k .waiting - 1); answer = Taken.Answered (numberAfter (k .sent)) m }
         → says a ≡ gives (answer (kept c) s (noneOpen (openIn k (c .streams))) ws m)
     clears s m e =
         ap says e
@@ -144,7 +144,7 @@ module _ (c : Connection) where
         (sym (behind-size k (c .streams) (c .kinds) (c .counts) (c .qids)))
 
     pub turn-resets : t ≡ U.Resets → (x : Bool) {at : ℕ} {y : Bool} → at ≡ behind (k .first) → y ≡ any isReset (lined (kindAt (c .kinds)) at (k .waiting - 1)) → y ≡ x
-        → {a : AfterTake} → a ≡ record { control = answeredIn k (cond x Interrupted Ready) 0 (k .next) (k .waiting - 1); answer = Taken.Answered S.Success (numberAfter (k .sent)) } → says a ≡ took
+        → {a : AfterTake} → a ≡ record { control = answeredIn k (cond x Interrupted Ready) 0 (k .next) (k .waiting - 1); answer = Taken.Answered (numberAfter (k .sent)) S.Success } → says a ≡ took
     turn-resets u x p f g e =
         let more : any (is RESET) ws ≡ x =
         resets-by-kind (lined (placeAt (c .kinds) (c .counts) (c .qids)) (behind (k .first)) (k .waiting - 1))
@@ -152,14 +152,14 @@ module _ (c : Connection) where
         ∙ ap (λ (at : ℕ). any isReset (lined (kindAt (c .kinds)) at (k .waiting - 1))) (sym p) ∙ sym f ∙ g in
         clears (cond x Interrupted Ready) S.Success e ∙ ap (λ (b : Bool). gives (answer (kept c) (cond b Interrupted Ready) (noneOpen (openIn k (c .streams))) ws S.Success)) (sym more) ∙ by-turn U.Resets u
 
-    pub turn-full : t ≡ U.Full → {a : AfterTake} → a ≡ record { control = answeredIn k Failed 0 (k .next) (k .waiting - 1); answer = Taken.Answered (S.Failure StreamsFull) (numberAfter (k .sent)) } → says a ≡ took
+    pub turn-full : t ≡ U.Full → {a : AfterTake} → a ≡ record { control = answeredIn k Failed 0 (k .next) (k .waiting - 1); answer = Taken.Answered (numberAfter (k .sent)) (S.Failure StreamsFull) } → says a ≡ took
     turn-full u e = clears Failed (S.Failure StreamsFull) e ∙ by-turn U.Full u
 
-    pub turn-unknown : t ≡ U.Unknown → {a : AfterTake} → a ≡ record { control = answeredIn k Failed 0 (k .next) (k .waiting - 1); answer = Taken.Answered (S.Failure StreamUnknown) (numberAfter (k .sent)) } → says a ≡ took
+    pub turn-unknown : t ≡ U.Unknown → {a : AfterTake} → a ≡ record { control = answeredIn k Failed 0 (k .next) (k .waiting - 1); answer = Taken.Answered (numberAfter (k .sent)) (S.Failure StreamUnknown) } → says a ≡ took
     turn-unknown u e = clears Failed (S.Failure StreamUnknown) e ∙ by-turn U.Unknown u
 
     -- it is ignored: the state and the streams stay
-    pub turn-ignored : t ≡ U.Ignored → {a : AfterTake} → a ≡ record { control = answeredIn k s (k .opened) (k .next) (k .waiting - 1); answer = Taken.Answered S.Ignored (numberAfter (k .sent)) } → says a ≡ took
+    pub turn-ignored : t ≡ U.Ignored → {a : AfterTake} → a ≡ record { control = answeredIn k s (k .opened) (k .next) (k .waiting - 1); answer = Taken.Answered (numberAfter (k .sent)) S.Ignored } → says a ≡ took
     turn-ignored u e =
         ap says e ∙ ap (λ (s : State). record { connection = with (answeredIn k s (k .opened) (k .next) (k .waiting - 1)); answer = result (answered S.Ignored (numberAfter (k .sent))) }) (told .state)
         ∙ put-answered k (c .streams) (c .kinds) (c .counts) (c .qids) within (told .may .1) (stateIn k) (openIn k (c .streams)) (c .streams) ws S.Ignored
@@ -168,7 +168,7 @@ module _ (c : Connection) where
         ∙ by-turn U.Ignored u
 
     -- it is handed over
-    pub turn-hands : t ≡ U.Handed → {x : Control} {a : AfterTake} → x ≡ handedIn k → a ≡ record { control = x; answer = Taken.Handed q (k .sent + 1) } → says a ≡ took
+    pub turn-hands : t ≡ U.Handed → {x : Control} {a : AfterTake} → x ≡ handedIn k → a ≡ record { control = x; answer = Taken.Handed (k .sent + 1) q } → says a ≡ took
     turn-hands u p e =
         ap says e ∙ ap (λ (x : Control). record { connection = with x; answer = result (handed q (k .sent + 1)) }) p
         ∙ (λ i. record { connection = put-handed k (c .streams) (c .kinds) (c .counts) (c .qids) within (told .may .1) i; answer = result (handed (told .first i) (k .sent + 1)) }) ∙ by-turn U.Handed u

@@ -60,9 +60,9 @@ state-by s r q left b e f h = f (subst (λ (x : Request). handsOver s (kindOf x)
 
 -- ---- the answer is made beside the control
 pub beside : (k : Control) (s : State) (a : Opened) (left : ℕ) (summary : Summary) {j : Control} {x : AfterReport}
-    → x ≡ record { control = j; answer = Answered summary (numberAfter (k .sent)) } → j ≡ answeredIn k s (a .count) (a .next) left
-    → x ≡ record { control = answeredIn k s (a .count) (a .next) left; answer = Answered summary (numberAfter (k .sent)) }
-beside k s a left summary e f = e ∙ (λ i. record { control = f i; answer = Answered summary (numberAfter (k .sent)) })
+    → x ≡ record { control = j; answer = Answered (numberAfter (k .sent)) summary } → j ≡ answeredIn k s (a .count) (a .next) left
+    → x ≡ record { control = answeredIn k s (a .count) (a .next) left; answer = Answered (numberAfter (k .sent)) summary }
+beside k s a left summary e f = e ∙ (λ i. record { control = f i; answer = Answered (numberAfter (k .sent)) summary })
 
 -- ---- the outcome of the first request, by its state and itself
 module _ (k : Control) (streams kinds : List ℕ) (counts qids : List ℤ) where
@@ -108,7 +108,7 @@ module _ (k : Control) (streams kinds : List ℕ) (counts qids : List ℤ) where
       unfitting p = first-by p refl
 
       module _ (b : Bounds k) (long : length streams ≡ 8) (fit : fitting o r ≡ true) {x : AfterReport} {summary : Summary} (told : summary ≡ summaryOf o s (k .next) r) where
-        pub interrupted : x ≡ record { control = answeredIn k s (k .opened) (k .next) (k .waiting - 1); answer = Answered summary (numberAfter (k .sent)) } → inState s Interrupted ≡ true
+        pub interrupted : x ≡ record { control = answeredIn k s (k .opened) (k .next) (k .waiting - 1); answer = Answered (numberAfter (k .sent)) summary } → inState s Interrupted ≡ true
             → toldReport x streams kinds counts qids ≡ carried nowhere c (reportFirst o (kept c) (waitingIn k kinds counts qids))
         interrupted e q =
             ap (λ (y : AfterReport). toldReport y streams kinds counts qids) e
@@ -117,7 +117,7 @@ module _ (k : Control) (streams kinds : List ℕ) (counts qids : List ℤ) where
             ∙ first-by fit q
 
         pub settles : (new : State) (a : Opened) (after : List ℕ) (d : Bool)
-            → x ≡ record { control = answeredIn k new (a .count) (a .next) (cond d 0 (k .waiting - 1)); answer = Answered summary (numberAfter (k .sent)) }
+            → x ≡ record { control = answeredIn k new (a .count) (a .next) (cond d 0 (k .waiting - 1)); answer = Answered (numberAfter (k .sent)) summary }
             → Laid (streamsAfter o s opened r) streams after a → new ≡ newState s (kindOf r) (response o r (a .count)) → inState new Defunct ≡ d → inState s Interrupted ≡ false
             → toldReport x after kinds counts qids ≡ carried nowhere c (reportFirst o (kept c) (waitingIn k kinds counts qids))
         settles new a after d e l n g q =

@@ -120,7 +120,7 @@ fn answer(control: Control, answer: Arrival) -> AfterArrive
     ensures { λ r. ⌜ r ≡ record { control = control; answer = answer } ⌝ }
 {
     AfterArrive {
-        control: control,
+        control: changes::same(control),
         answer: answer,
     }
 }

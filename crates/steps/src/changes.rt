@@ -1,4 +1,5 @@
-// The changes that the steps make to a control, each with all the fields that it sets.
+// The changes that the steps make to a control, each with all the fields that it sets. A control is made anew even where nothing or one field
+// changes: copied as a whole, the gap behind its two bytes would go from call to call through memory, and each call would wait for it.
 ghost use mathlib.Core.Path.{_≡_};
 ghost use Prim.Native.Nat.{_<_};
 ghost use Rattle.steps.specs.Private.Changes.{defunctIn, countedIn, answeredIn, handedIn};
@@ -61,7 +62,30 @@ pub fn answered(control: Control, state: State, opened: usize, next: u64, left: 
 pub fn handed(control: Control) -> Control
     ensures { λ r. ⌜ r ≡ handedIn control ⌝ }
 {
-    let mut next = control;
-    next.in_flight = 1;
-    next
+    Control {
+        state: control.state,
+        in_flight: 1,
+        first: control.first,
+        waiting: control.waiting,
+        opened: control.opened,
+        next: control.next,
+        accepted: control.accepted,
+        sent: control.sent,
+    }
+}
+
+// Nothing changes.
+pub fn same(control: Control) -> Control
+    ensures { λ r. ⌜ r ≡ control ⌝ }
+{
+    Control {
+        state: control.state,
+        in_flight: control.in_flight,
+        first: control.first,
+        waiting: control.waiting,
+        opened: control.opened,
+        next: control.next,
+        accepted: control.accepted,
+        sent: control.sent,
+    }
 }

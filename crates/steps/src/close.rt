@@ -52,7 +52,7 @@ fn answer(control: Control, answer: Closing) -> AfterClose
     ensures { λ r. ⌜ r ≡ record { control = control; answer = answer } ⌝ }
 {
     AfterClose {
-        control: control,
+        control: changes::same(control),
         answer: answer,
     }
 }

@@ -183,7 +183,7 @@ fn sum_up(
     summary: Summary,
 ) -> AfterReport
     requires { ⌜ control .sent < 4294967295 ⌝ }
-    ensures { λ r. ⌜ r ≡ record { control = answeredIn control state (opened .count) (opened .next) left; answer = Answered summary (numberAfter (control .sent)) } ⌝ }
+    ensures { λ r. ⌜ r ≡ record { control = answeredIn control state (opened .count) (opened .next) left; answer = Answered (numberAfter (control .sent)) summary } ⌝ }
 {
     let number = control.sent + 1;
     let answered = Reported::Answered {
@@ -200,7 +200,7 @@ fn answer(control: Control, answer: Reported) -> AfterReport
     ensures { λ r. ⌜ r ≡ record { control = control; answer = answer } ⌝ }
 {
     AfterReport {
-        control: control,
+        control: changes::same(control),
         answer: answer,
     }
 }

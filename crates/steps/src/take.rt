@@ -107,7 +107,7 @@ fn take_first(
 // The first request fails, before the engine has seen it.
 fn fail(control: Control, failure: Failure) -> AfterTake
     requires { ⌜ Answering control ⌝ }
-    ensures { λ r. ⌜ r ≡ record { control = answeredIn control Failed 0 (control .next) (control .waiting - 1); answer = Answered (FAILURE failure) (numberAfter (control .sent)) } ⌝ }
+    ensures { λ r. ⌜ r ≡ record { control = answeredIn control Failed 0 (control .next) (control .waiting - 1); answer = Answered (numberAfter (control .sent)) (FAILURE failure) } ⌝ }
 {
     sum_up(control, State::Failed, 0, Summary::Failure(failure))
 }
@@ -115,7 +115,7 @@ fn fail(control: Control, failure: Failure) -> AfterTake
 // The first request gets its summary, and waits no more.
 fn sum_up(control: Control, state: State, opened: usize, summary: Summary) -> AfterTake
     requires { ⌜ Answering control ⌝ }
-    ensures { λ r. ⌜ r ≡ record { control = answeredIn control state opened (control .next) (control .waiting - 1); answer = Answered summary (numberAfter (control .sent)) } ⌝ }
+    ensures { λ r. ⌜ r ≡ record { control = answeredIn control state opened (control .next) (control .waiting - 1); answer = Answered (numberAfter (control .sent)) summary } ⌝ }
 {
     let number = control.sent + 1;
     let answered = Taken::Answered {
@@ -133,7 +133,7 @@ fn answer(control: Control, answer: Taken) -> AfterTake
     ensures { λ r. ⌜ r ≡ record { control = control; answer = answer } ⌝ }
 {
     AfterTake {
-        control: control,
+        control: changes::same(control),
         answer: answer,
     }
 }
