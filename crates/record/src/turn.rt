@@ -69,7 +69,8 @@ pub fn turn_of(state: State, streams: &[u64; 8], opened: usize, next: u64, reque
     Turn::Handed
 }
 
-// Whether a request goes to the engine, with the first `opened` streams open.
+// Whether a request goes to the engine, with the first `opened` streams open. The check of the rules asks no more than this, and a turn would go
+// through memory.
 pub fn is_handed_over(
     state: State,
     streams: &[u64; 8],

@@ -33,6 +33,7 @@ pub enum Arrival {
     Refused(Refusal),
 }
 
+// A number stands in front of its request or summary, so that both begin at one place: what was stored of one is then loaded as it was stored.
 pub enum Taken {
     // None waits, or one is in flight.
     Idle,
