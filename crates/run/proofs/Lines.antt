@@ -4,6 +4,7 @@ use mathlib.Core.Bool.{Bool, true, false, false≢true, cond}
 use mathlib.Core.List.{List, [], _++_, append-nil}
 use Prim.Native.Nat.{ℕ, _-_, _≤_}
 use native.Mathlib.Omega.{arith}
+use lib.IntN.{ℤ}
 use lib.ListN.{length, take, drop, length-take, length-drop, length-append}
 use lib.Seq.{take-append-seam}
 use Rattle.slices.specs.Parts.{front}
@@ -11,11 +12,16 @@ use Rattle.refusal.specs.Answer.{Answer, result, refused, left}
 use Rattle.lines.specs.Lines.{firstLine, hasEnd, firstLines}
 use Rattle.lines.specs.Blocks.{Cut, cut, heldOf}
 use Rattle.lines.proofs.Blocks.{firstCut, cut-first}
-use Rattle.session.specs.Session.{Session, nextOf, written, handling, Told, telling, goingOn, putting}
+use Rattle.session.specs.declared.phase.Session.{Session as Held}
+use Rattle.session.specs.Session.{Session, sessionIn, nextOf, written, handling, Told, telling, goingOn, putting}
 use Rattle.session.specs.Room.{enough}
 use Rattle.session.proofs.Room.{room}
 use Rattle.session.proofs.Receiving.{from-start}
 use Rattle.run.specs.Run.{Progress, afterLine, sentFor, afterLines, sentForLines, stepOf, heldAfter, leaves}
+
+-- a session that is renewed is the same
+pub as-renewed : {s t : Held} {streams kinds : List ℕ} {counts qids : List ℤ} {w : Session} → s ≡ t → sessionIn t streams kinds counts qids ≡ w → sessionIn s streams kinds counts qids ≡ w
+as-renewed {streams = streams} {kinds = kinds} {counts = counts} {qids = qids} e f = ap (λ (s : Held). sessionIn s streams kinds counts qids) e ∙ f
 
 -- ---- a line that is handled
 -- what a line gives, in the order in which `handle_line` ensures it

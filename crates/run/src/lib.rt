@@ -75,7 +75,8 @@ fn handle_line(
         };
     }
     let after = line::handle(session, streams, kinds, counts, qids, line, out);
-    let next = after.session;
+    let answered = after.session;
+    let next = phase::renewed(answered);
     let answer = after.answer;
     match answer {
         Handled::GoesOn(n) => Answered {

@@ -28,3 +28,15 @@ pub fn fresh() -> Session
         control: control,
     }
 }
+
+// The same session, with its control field by field.
+pub fn renewed(session: Session) -> Session
+    ensures { λ r. ⌜ r ≡ session ⌝ }
+{
+    let phase = session.phase;
+    let control = session.control;
+    Session {
+        phase: phase,
+        control: record::record::renewed(control),
+    }
+}

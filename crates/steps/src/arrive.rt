@@ -120,7 +120,7 @@ fn answer(control: Control, answer: Arrival) -> AfterArrive
     ensures { λ r. ⌜ r ≡ record { control = control; answer = answer } ⌝ }
 {
     AfterArrive {
-        control: changes::same(control),
+        control: record::record::renewed(control),
         answer: answer,
     }
 }

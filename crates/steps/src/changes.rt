@@ -1,5 +1,4 @@
-// The changes that the steps make to a control, each with all the fields that it sets. A control is made anew even where nothing or one field
-// changes: copied as a whole, the gap behind its two bytes would go from call to call through memory, and each call would wait for it.
+// The changes that the steps make to a control, each with all its fields: see `record::record::renewed`.
 ghost use mathlib.Core.Path.{_≡_};
 ghost use Prim.Native.Nat.{_<_};
 ghost use Rattle.steps.specs.Private.Changes.{defunctIn, countedIn, answeredIn, handedIn};
@@ -65,22 +64,6 @@ pub fn handed(control: Control) -> Control
     Control {
         state: control.state,
         in_flight: 1,
-        first: control.first,
-        waiting: control.waiting,
-        opened: control.opened,
-        next: control.next,
-        accepted: control.accepted,
-        sent: control.sent,
-    }
-}
-
-// Nothing changes.
-pub fn same(control: Control) -> Control
-    ensures { λ r. ⌜ r ≡ control ⌝ }
-{
-    Control {
-        state: control.state,
-        in_flight: control.in_flight,
         first: control.first,
         waiting: control.waiting,
         opened: control.opened,

@@ -52,7 +52,7 @@ fn answer(control: Control, answer: Closing) -> AfterClose
     ensures { λ r. ⌜ r ≡ record { control = control; answer = answer } ⌝ }
 {
     AfterClose {
-        control: changes::same(control),
+        control: record::record::renewed(control),
         answer: answer,
     }
 }

@@ -200,7 +200,7 @@ fn answer(control: Control, answer: Reported) -> AfterReport
     ensures { λ r. ⌜ r ≡ record { control = control; answer = answer } ⌝ }
 {
     AfterReport {
-        control: changes::same(control),
+        control: record::record::renewed(control),
         answer: answer,
     }
 }

@@ -133,7 +133,7 @@ fn answer(control: Control, answer: Taken) -> AfterTake
     ensures { λ r. ⌜ r ≡ record { control = control; answer = answer } ⌝ }
 {
     AfterTake {
-        control: changes::same(control),
+        control: record::record::renewed(control),
         answer: answer,
     }
 }

@@ -4,7 +4,7 @@ use Rattle.steps.proofs.arrive.answer.Statement.{statement}
 use Rattle.steps.proofs.arrive.answer.Tie as tie
 
 returns : tie.Need-returns
-returns c = λ i. record { control = c .same .ensures i; answer = c .before .args .answer }
+returns c = λ i. record { control = c .renewed .ensures i; answer = c .before .args .answer }
 
 pub answer-spec : {M : Type 1} → statement M
 answer-spec = tie.close (tie.spec (λ c κs. search needs) returns)
