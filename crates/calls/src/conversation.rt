@@ -7,7 +7,7 @@ use states::answers::{Arrival, Closing, Outcome, Reported, Taken};
 use states::request::Request;
 
 // What the calls answered, in their order.
-#[derive(Drop)]
+#[derive(Clone, Copy)]
 pub struct Heard {
     pub arrival: Arrival,
     pub taken: Taken,

@@ -14,7 +14,7 @@ pub fn read(block: &mut [u8]) -> usize
 }
 
 // How far the input has come: whether a line was found, and how many characters of it, or of the one that has begun, are held.
-#[derive(Drop)]
+#[derive(Clone, Copy)]
 pub struct Input {
     pub found: bool,
     pub size: usize,

@@ -14,7 +14,7 @@ use values::walk::{Peeked, Skipped};
 use view::Text;
 
 // Where the entries of a Dictionary lie.
-#[derive(Drop)]
+#[derive(Clone, Copy)]
 pub enum Entries {
     // The first one's key is at `first`.
     From { first: usize, count: usize },

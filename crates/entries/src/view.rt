@@ -12,28 +12,28 @@ use values::walk;
 use values::walk::Peeked;
 
 // `size` bytes from `start` on.
-#[derive(Drop)]
+#[derive(Clone, Copy)]
 pub struct Span {
     pub start: usize,
     pub size: usize,
 }
 
 // A String that may be absent.
-#[derive(Drop)]
+#[derive(Clone, Copy)]
 pub enum Text {
     Absent,
     At(Span),
 }
 
 // The marker of a List or a Dictionary that may be absent.
-#[derive(Drop)]
+#[derive(Clone, Copy)]
 pub enum Place {
     Absent,
     At(usize),
 }
 
 // How a transaction is going to access the data, where it says so.
-#[derive(Drop)]
+#[derive(Clone, Copy)]
 pub enum Mode {
     Absent,
     Read,
@@ -41,7 +41,7 @@ pub enum Mode {
 }
 
 // What a value is.
-#[derive(Drop)]
+#[derive(Clone, Copy)]
 pub enum View {
     // Null, or nothing: in an entry they are the same.
     Absent,
@@ -55,7 +55,7 @@ pub enum View {
 }
 
 // A value and its marker's offset, 0 where there is none: no entry begins a message.
-#[derive(Drop)]
+#[derive(Clone, Copy)]
 pub struct Entry {
     pub place: usize,
     pub view: View,

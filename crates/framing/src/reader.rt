@@ -12,7 +12,7 @@ use handshake::version::Version;
 use refusal::Refusal;
 
 // What stands at the front of the input.
-#[derive(Drop)]
+#[derive(Clone, Copy)]
 pub enum Frame {
     // A message of `length` bytes, now in front of the lent buffer; it took `consumed` bytes of the input.
     Message { length: usize, consumed: usize },

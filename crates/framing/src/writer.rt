@@ -10,7 +10,7 @@ use bolt::MOST_BYTES;
 use refusal::Refusal;
 
 // What the chunk writer answers: how many bytes it wrote, or why it wrote none.
-#[derive(Drop)]
+#[derive(Clone, Copy)]
 pub enum Written {
     Bytes(usize),
     Refused(Refusal),

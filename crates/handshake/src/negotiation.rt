@@ -7,7 +7,7 @@ use crate::version::{Proposal, Version};
 use refusal::Refusal;
 
 // What a handshake comes to.
-#[derive(Drop)]
+#[derive(Clone, Copy)]
 pub enum Negotiation {
     Agreed(Version),
     Refused(Refusal),

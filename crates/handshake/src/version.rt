@@ -3,13 +3,13 @@ ghost use Rattle.std.specs.Prelude.{◌≡◌, leb};
 ghost use Rattle.handshake.specs.Version.{bytes_of, keeps_alive, proposed, named_by};
 
 // A known version of Bolt 4. Its field is private: only the constants below, and what is read as one of them, are versions.
-#[derive(Drop)]
+#[derive(Clone, Copy)]
 pub struct Version {
     minor: u8,
 }
 
 // What four bytes name.
-#[derive(Drop)]
+#[derive(Clone, Copy)]
 pub enum Proposal {
     Known(Version),
     Unknown,

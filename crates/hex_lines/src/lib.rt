@@ -8,14 +8,14 @@ ghost use Rattle.hex_lines.specs.Hex.{is_digit, value_of, digit_of, is_line, to_
 use refusal::Refusal;
 
 // What reading a line answers: how many bytes it stands for, or why nothing was read.
-#[derive(Drop)]
+#[derive(Clone, Copy)]
 pub enum Decoded {
     Bytes(usize),
     Refused(Refusal),
 }
 
 // What writing bytes as digits answers: how many characters were written, or why none were.
-#[derive(Drop)]
+#[derive(Clone, Copy)]
 pub enum Encoded {
     Characters(usize),
     Refused(Refusal),

@@ -12,7 +12,7 @@ pub const HELD: usize = 40001;
 
 // What the next characters of a stream come to: how many were taken, whether a line end was the last of them, and how many characters of
 // the line are held.
-#[derive(Drop)]
+#[derive(Clone, Copy)]
 pub struct Taken {
     pub taken: usize,
     pub ended: bool,

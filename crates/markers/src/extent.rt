@@ -12,7 +12,7 @@ use refusal::Refusal;
 pub const MOST_OPEN: usize = 16;
 
 // What lies at an offset.
-#[derive(Drop)]
+#[derive(Clone, Copy)]
 pub enum Extent {
     // A value of `size` bytes from `start` on.
     Leaf {

@@ -3,7 +3,7 @@ ghost use Rattle.std.specs.Prelude.{◌≡◌};
 ghost use Rattle.markers.specs.Marker.{is_string};
 
 // The kinds of value that hold no other.
-#[derive(Drop)]
+#[derive(Clone, Copy)]
 pub enum Leaf {
     Null,
     Boolean,
@@ -14,7 +14,7 @@ pub enum Leaf {
 }
 
 // The kinds that hold others.
-#[derive(Drop)]
+#[derive(Clone, Copy)]
 pub enum Container {
     List,
     Dictionary,

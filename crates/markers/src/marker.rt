@@ -5,7 +5,7 @@ ghost use Rattle.markers.specs.Marker.{reserved, itself, small, sized, marker_of
 use crate::kind::{Container, Leaf};
 
 // What a marker stands for.
-#[derive(Drop)]
+#[derive(Clone, Copy)]
 pub enum Kind {
     Reserved,
     Leaf(Leaf),
@@ -14,7 +14,7 @@ pub enum Kind {
 
 // A marker taken apart: `skip` bytes lie between it and what follows, 0 where the marker is the content itself; then come `width`
 // bytes that give the size, or none, and it is `size`.
-#[derive(Drop)]
+#[derive(Clone, Copy)]
 pub struct Marker {
     pub kind: Kind,
     pub skip: usize,

@@ -20,7 +20,7 @@ use refusal::Refusal;
 
 // The minor version agreed on, or the refusal.
 #[repr(C)]
-#[derive(Drop)]
+#[derive(Clone, Copy)]
 pub struct Agreement {
     pub refusal: u8,
     pub minor: u8,
@@ -29,7 +29,7 @@ pub struct Agreement {
 
 // A frame: a message (1) or a keep-alive (2), or the refusal.
 #[repr(C)]
-#[derive(Drop)]
+#[derive(Clone, Copy)]
 pub struct FrameRead {
     pub refusal: u8,
     pub kind: u8,
@@ -40,7 +40,7 @@ pub struct FrameRead {
 
 // What a writer answers: the offset past what it wrote, or the refusal.
 #[repr(C)]
-#[derive(Drop)]
+#[derive(Clone, Copy)]
 pub struct Output {
     pub refusal: u8,
     pub place: u64,

@@ -9,7 +9,7 @@ use states::request::Request;
 
 // How the engine ended a request: success 0, success with more 1, failure 2.
 #[repr(C)]
-#[derive(Drop)]
+#[derive(Clone, Copy)]
 pub struct OutcomeImage {
     pub number: u8,
 }

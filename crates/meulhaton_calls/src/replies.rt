@@ -16,7 +16,7 @@ use states::request::Request;
 // A summary: IGNORED 1, SUCCESS with nothing 2, with has_more 3, with qid 4; FAILURE for too many streams 5, for an unknown stream 6,
 // of the engine 7. `value` is has_more or qid.
 #[repr(C)]
-#[derive(Drop)]
+#[derive(Clone, Copy)]
 pub struct SummaryImage {
     pub value: u32,
     pub kind: u8,
@@ -25,7 +25,7 @@ pub struct SummaryImage {
 // What a call answers: queued 1, closed 2, idle 3, handed over 4 with a request and its number, answered 5 with a summary and its
 // request's number; or the refusal. The bytes come last, so that no gap lies between: a copy over a gap waits for the stores around it.
 #[repr(C)]
-#[derive(Drop)]
+#[derive(Clone, Copy)]
 pub struct Reply {
     pub place: u64,
     pub number: u64,

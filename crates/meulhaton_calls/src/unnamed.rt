@@ -16,7 +16,7 @@ use states::state;
 use states::state::State;
 
 // The control after a call, and its reply.
-#[derive(Drop)]
+#[derive(Clone, Copy)]
 pub struct Replied {
     pub control: Control,
     pub reply: Reply,

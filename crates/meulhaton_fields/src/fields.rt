@@ -7,7 +7,7 @@ use requests::request::{Number, Request, Transaction};
 
 // A String that may be absent: its content is `size` bytes of the message from `start` on.
 #[repr(C)]
-#[derive(Drop)]
+#[derive(Clone, Copy)]
 pub struct TextImage {
     pub present: u8,
     pub start: u64,
@@ -16,7 +16,7 @@ pub struct TextImage {
 
 // A List or a Dictionary that may be absent: the offset of its marker.
 #[repr(C)]
-#[derive(Drop)]
+#[derive(Clone, Copy)]
 pub struct PlaceImage {
     pub present: u8,
     pub offset: u64,
@@ -24,7 +24,7 @@ pub struct PlaceImage {
 
 // An Integer that may be absent.
 #[repr(C)]
-#[derive(Drop)]
+#[derive(Clone, Copy)]
 pub struct NumberImage {
     pub present: u8,
     pub value: i64,
@@ -32,7 +32,7 @@ pub struct NumberImage {
 
 // What HELLO says.
 #[repr(C)]
-#[derive(Drop)]
+#[derive(Clone, Copy)]
 pub struct HelloImage {
     pub user_agent: TextImage,
     pub scheme: TextImage,
@@ -43,7 +43,7 @@ pub struct HelloImage {
 
 // What RUN says.
 #[repr(C)]
-#[derive(Drop)]
+#[derive(Clone, Copy)]
 pub struct RunImage {
     pub query: TextImage,
     pub parameters: PlaceImage,
@@ -51,7 +51,7 @@ pub struct RunImage {
 
 // What RUN and BEGIN say of their transaction. The mode: 1 is "r", 2 is "w", 0 is absent.
 #[repr(C)]
-#[derive(Drop)]
+#[derive(Clone, Copy)]
 pub struct TransactionImage {
     pub bookmarks: PlaceImage,
     pub tx_timeout: NumberImage,
@@ -62,7 +62,7 @@ pub struct TransactionImage {
 
 // The fields of a request; those of other requests are absent.
 #[repr(C)]
-#[derive(Drop)]
+#[derive(Clone, Copy)]
 pub struct FieldsImage {
     pub hello: HelloImage,
     pub run: RunImage,

@@ -15,7 +15,7 @@ use states::request::Request;
 
 // A request: its tag, and n and qid of DISCARD and PULL.
 #[repr(C)]
-#[derive(Drop)]
+#[derive(Clone, Copy)]
 pub struct RequestImage {
     pub n: i64,
     pub qid: i64,
@@ -24,7 +24,7 @@ pub struct RequestImage {
 
 // A request, as the connection is told of it, and its fields; or the refusal.
 #[repr(C)]
-#[derive(Drop)]
+#[derive(Clone, Copy)]
 pub struct RequestRead {
     pub refusal: u8,
     pub place: u64,

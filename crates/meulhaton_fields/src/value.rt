@@ -9,7 +9,7 @@ use values::read::Reading;
 // What a value is: Null 1, Boolean 2, Integer 3, Float 4, Bytes 5, String 6, List 7, Dictionary 8, Structure 9; then what it holds.
 // `start` and `size`: where the content of Bytes or a String lies; or the marker of the first item, entry or field, and how many they are.
 #[repr(C)]
-#[derive(Drop)]
+#[derive(Clone, Copy)]
 pub struct HeadImage {
     pub kind: u8,
     pub boolean: u8,
@@ -22,7 +22,7 @@ pub struct HeadImage {
 
 // A value and the offset past it, or the refusal.
 #[repr(C)]
-#[derive(Drop)]
+#[derive(Clone, Copy)]
 pub struct ValueRead {
     pub refusal: u8,
     pub place: u64,

@@ -8,7 +8,7 @@ ghost use Rattle.numbers.specs.TwosComplement.{twos, bits_of, fits_in};
 ghost use Rattle.numbers.specs.Access.{is_width, unsigned_at, signed_at, storing, stored};
 
 // What a read of an unsigned number finds.
-#[derive(Drop)]
+#[derive(Clone, Copy)]
 pub enum Unsigned {
     Number(u64),
     // The slice ends before the number does.
@@ -18,7 +18,7 @@ pub enum Unsigned {
 }
 
 // What a read of an integer finds.
-#[derive(Drop)]
+#[derive(Clone, Copy)]
 pub enum Signed {
     Number(i64),
     // The slice ends before the integer does.
@@ -28,7 +28,7 @@ pub enum Signed {
 }
 
 // What a write did. Anything but `Written` left the slice as it was.
-#[derive(Drop)]
+#[derive(Clone, Copy)]
 pub enum Stored {
     Written,
     // The width cannot hold the number.

@@ -9,7 +9,7 @@ use bolt::MOST_BYTES;
 use refusal::Refusal;
 
 // What a packer answers: the offset past what it packed, or why it packed nothing.
-#[derive(Drop)]
+#[derive(Clone, Copy)]
 pub enum Packed {
     To(usize),
     Refused(Refusal),

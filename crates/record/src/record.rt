@@ -5,7 +5,7 @@ ghost use Rattle.record.specs.Record.{fresh as fresh_record};
 
 // All of a record but its arrays.
 #[repr(C)]
-#[derive(Drop)]
+#[derive(Clone, Copy)]
 pub struct Control {
     // A state by its place in 003's list.
     pub state: u8,
@@ -25,7 +25,7 @@ pub struct Control {
 // The numbers of the open streams stand at the front of theirs. The requests that wait stand around a ring, from the first place on: each
 // place has a request's tag and, of DISCARD and PULL, its n and qid. What the other places hold never matters.
 #[repr(C)]
-#[derive(Drop)]
+#[derive(Clone, Copy)]
 pub struct Connection {
     pub control: Control,
     pub streams: [u64; 8],

@@ -8,7 +8,7 @@ use crate::{names, ring};
 use states::request;
 
 // What one pass over those that wait finds: a place whose numbers are no request's or out of their ranges, else whether one is a RESET.
-#[derive(Drop)]
+#[derive(Clone, Copy)]
 pub enum Seen {
     Plain,
     WithReset,

@@ -9,32 +9,32 @@ use entries::view::{Entry, Mode, Place, Text, View};
 use refusal::Refusal;
 
 // What a check answers.
-#[derive(Drop)]
+#[derive(Clone, Copy)]
 pub enum CheckedText {
     Right(Text),
     Wrong(Fault),
 }
 
-#[derive(Drop)]
+#[derive(Clone, Copy)]
 pub enum CheckedPlace {
     Right(Place),
     Wrong(Fault),
 }
 
-#[derive(Drop)]
+#[derive(Clone, Copy)]
 pub enum CheckedNumber {
     Right(Number),
     Wrong(Fault),
 }
 
-#[derive(Drop)]
+#[derive(Clone, Copy)]
 pub enum CheckedMode {
     Right(Mode),
     Wrong(Fault),
 }
 
 // The ranges of Integers.
-#[derive(Drop)]
+#[derive(Clone, Copy)]
 pub enum Range {
     // 0 or more.
     Timeout,

@@ -15,13 +15,13 @@ use entries::{names, view};
 use handshake::version::Version;
 use refusal::Refusal;
 
-#[derive(Drop)]
+#[derive(Clone, Copy)]
 pub enum CheckedTransaction {
     Right(Transaction),
     Wrong(Fault),
 }
 
-#[derive(Drop)]
+#[derive(Clone, Copy)]
 pub enum CheckedBatch {
     Right(Batch),
     Wrong(Fault),
@@ -150,7 +150,7 @@ pub fn batch(message: &[u8], at: usize, found: [usize; 13]) -> CheckedBatch
 }
 
 // The requests that have the extra alone.
-#[derive(Drop)]
+#[derive(Clone, Copy)]
 pub enum Kind {
     Hello,
     Begin,

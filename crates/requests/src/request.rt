@@ -4,14 +4,14 @@ use entries::view::{Mode, Place, Span, Text};
 use refusal::Refusal;
 
 // An Integer that may be absent.
-#[derive(Drop)]
+#[derive(Clone, Copy)]
 pub enum Number {
     Absent,
     Is(i64),
 }
 
 // What RUN and BEGIN say of their transaction.
-#[derive(Drop)]
+#[derive(Clone, Copy)]
 pub struct Transaction {
     pub bookmarks: Place,
     pub tx_timeout: Number,
@@ -21,13 +21,13 @@ pub struct Transaction {
 }
 
 // What DISCARD and PULL ask for: `n` records, -1 for all, of the stream `qid`, -1 for the latest.
-#[derive(Drop)]
+#[derive(Clone, Copy)]
 pub struct Batch {
     pub n: i64,
     pub qid: i64,
 }
 
-#[derive(Drop)]
+#[derive(Clone, Copy)]
 pub enum Request {
     Hello {
         user_agent: Span,
@@ -51,14 +51,14 @@ pub enum Request {
 }
 
 // Why a message is refused, and where.
-#[derive(Drop)]
+#[derive(Clone, Copy)]
 pub struct Fault {
     pub refusal: Refusal,
     pub place: usize,
 }
 
 // What a message is read as.
-#[derive(Drop)]
+#[derive(Clone, Copy)]
 pub enum Reading {
     Request(Request),
     Refused(Fault),

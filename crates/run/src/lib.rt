@@ -15,7 +15,7 @@ use session::{line, phase};
 const ENOUGH: usize = 4400;
 
 // How far a run has come: its session, whether it goes on, and how many characters of the line that has begun are held.
-#[derive(Drop)]
+#[derive(Clone, Copy)]
 pub struct Run {
     pub session: Session,
     pub goes_on: bool,
@@ -36,7 +36,7 @@ pub fn fresh() -> Run
 }
 
 // How far the run has come behind a block or a line of it, how much of the block was taken, and how many characters were written.
-#[derive(Drop)]
+#[derive(Clone, Copy)]
 pub struct Fed {
     pub run: Run,
     pub taken: usize,
@@ -44,7 +44,7 @@ pub struct Fed {
 }
 
 // A session behind a line, whether the run goes on, and how many characters were written.
-#[derive(Drop)]
+#[derive(Clone, Copy)]
 struct Answered {
     session: Session,
     goes_on: bool,

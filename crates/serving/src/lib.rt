@@ -15,7 +15,7 @@ use steps::after::AfterTake;
 use steps::{close, report, take};
 
 // Why serving ended: nothing is left to do until the next request, the connection closed, or a call was refused.
-#[derive(Drop)]
+#[derive(Clone, Copy)]
 pub enum Ending {
     Idle,
     Closed,

@@ -17,7 +17,7 @@ use slices;
 const ENOUGH: usize = 4400;
 
 // What one more line comes to: how many characters were written, and whether the run goes on; or that there was no room for them.
-#[derive(Drop)]
+#[derive(Clone, Copy)]
 pub enum Handled {
     GoesOn(usize),
     // With a refusal, or because the connection closed.
@@ -25,7 +25,7 @@ pub enum Handled {
     Refused(Refusal),
 }
 
-#[derive(Drop)]
+#[derive(Clone, Copy)]
 pub struct AfterLine {
     pub session: Session,
     pub answer: Handled,

@@ -6,7 +6,7 @@ ghost use Rattle.session.specs.declared.phase.Phase.TheVariants as P;
 use handshake::version::Version;
 use record::record::Control;
 
-#[derive(Drop)]
+#[derive(Clone, Copy)]
 pub enum Phase {
     // The next line is the handshake.
     Awaiting,
@@ -14,7 +14,7 @@ pub enum Phase {
     Open(Version),
 }
 
-#[derive(Drop)]
+#[derive(Clone, Copy)]
 pub struct Session {
     pub phase: Phase,
     pub control: Control,

@@ -24,7 +24,7 @@ use states::request::Request;
 use summaries::arrival;
 
 // A keep-alive brings nothing.
-#[derive(Drop)]
+#[derive(Clone, Copy)]
 pub enum Received {
     KeepAlive,
     Request(Request),

@@ -15,7 +15,7 @@ use serving::Ending;
 
 // The session's phase and control as the line left them, why it ended, and where what was written ends. What a refusal leads to is still to
 // do.
-#[derive(Drop)]
+#[derive(Clone, Copy)]
 pub struct Reply {
     pub phase: Phase,
     pub control: Control,

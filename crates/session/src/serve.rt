@@ -15,7 +15,7 @@ use states::request::Request;
 use steps::arrive;
 
 // The control as serving left it, why it ended, and where what was written ends. What a refusal leads to is still to do.
-#[derive(Drop)]
+#[derive(Clone, Copy)]
 pub struct Served {
     pub control: Control,
     pub ending: Ending,

@@ -4,7 +4,7 @@ use super::request::Request;
 use refusal::Refusal;
 
 // How the engine ended a request: with success, with success and more to fetch (PULL and DISCARD only), or not at all.
-#[derive(Drop)]
+#[derive(Clone, Copy)]
 pub enum Outcome {
     Success,
     More,
@@ -12,7 +12,7 @@ pub enum Outcome {
 }
 
 // The texts of a FAILURE: "Parts.Stream.Full", "Parts.Stream.Unknown" and "Parts.Engine.Failed".
-#[derive(Drop)]
+#[derive(Clone, Copy)]
 pub enum Failure {
     StreamsFull,
     StreamUnknown,
@@ -20,7 +20,7 @@ pub enum Failure {
 }
 
 // A summary: IGNORED, SUCCESS with nothing, with has_more or with the qid of the stream it opened, or FAILURE.
-#[derive(Drop)]
+#[derive(Clone, Copy)]
 pub enum Summary {
     Ignored,
     Success,
@@ -29,7 +29,7 @@ pub enum Summary {
     Failure(Failure),
 }
 
-#[derive(Drop)]
+#[derive(Clone, Copy)]
 pub enum Arrival {
     Queued,
     // A RESET that came before HELLO: it was accepted, and it closed the connection.
@@ -38,7 +38,7 @@ pub enum Arrival {
 }
 
 // A number stands in front of its request or summary, so that both begin at one place: what was stored of one is then loaded as it was stored.
-#[derive(Drop)]
+#[derive(Clone, Copy)]
 pub enum Taken {
     // None waits, or one is in flight.
     Idle,
@@ -50,13 +50,13 @@ pub enum Taken {
     Refused(Refusal),
 }
 
-#[derive(Drop)]
+#[derive(Clone, Copy)]
 pub enum Reported {
     Answered { number: u64, summary: Summary },
     Refused(Refusal),
 }
 
-#[derive(Drop)]
+#[derive(Clone, Copy)]
 pub enum Closing {
     Closed,
     Refused(Refusal),

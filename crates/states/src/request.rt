@@ -5,7 +5,7 @@ ghost use Rattle.bolt.specs.Ranges.{minus_one_or};
 ghost use Rattle.bolt.specs.Requests.{tag as tag_of};
 
 // A request as it arrives. Only DISCARD and PULL carry numbers: how many records, and of which stream, where -1 is the latest.
-#[derive(Drop)]
+#[derive(Clone, Copy)]
 pub enum Request {
     Hello,
     Goodbye,
@@ -19,7 +19,7 @@ pub enum Request {
 }
 
 // Which stream a request that fetches is for.
-#[derive(Drop)]
+#[derive(Clone, Copy)]
 pub enum Asked {
     Latest,
     Stream(u64),

@@ -4,7 +4,7 @@ ghost use Rattle.states.specs.declared.state.State.TheVariants.{Ready, Streaming
 ghost use Rattle.states.specs.Requests.{rank as rank_of, in_state, in_transaction, is_stopped};
 
 // Where a connection stands: 003, "Server States".
-#[derive(Drop)]
+#[derive(Clone, Copy)]
 pub enum State {
     Connected,
     Ready,

@@ -9,7 +9,7 @@ use super::request::Request;
 use super::state;
 use super::state::State;
 
-#[derive(Drop)]
+#[derive(Clone, Copy)]
 pub enum Turn {
     // The connection closes, with no summary.
     Closes,

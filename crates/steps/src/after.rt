@@ -2,25 +2,25 @@
 use record::record::Control;
 use states::answers::{Arrival, Closing, Reported, Taken};
 
-#[derive(Drop)]
+#[derive(Clone, Copy)]
 pub struct AfterArrive {
     pub control: Control,
     pub answer: Arrival,
 }
 
-#[derive(Drop)]
+#[derive(Clone, Copy)]
 pub struct AfterTake {
     pub control: Control,
     pub answer: Taken,
 }
 
-#[derive(Drop)]
+#[derive(Clone, Copy)]
 pub struct AfterReport {
     pub control: Control,
     pub answer: Reported,
 }
 
-#[derive(Drop)]
+#[derive(Clone, Copy)]
 pub struct AfterClose {
     pub control: Control,
     pub answer: Closing,

@@ -9,7 +9,7 @@ use markers::extent::{Extent, key_extent_at};
 use refusal::Refusal;
 
 // What is read where a key is wanted: where its content lies.
-#[derive(Drop)]
+#[derive(Clone, Copy)]
 pub enum Key {
     String { start: usize, size: usize },
     Refused { refusal: Refusal, place: usize },

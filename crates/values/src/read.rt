@@ -14,7 +14,7 @@ use markers::extent::MOST_OPEN;
 use refusal::Refusal;
 
 // What a reader answers.
-#[derive(Drop)]
+#[derive(Clone, Copy)]
 pub enum Reading {
     // A value, and the offset past it.
     Value { head: Head, end: usize },

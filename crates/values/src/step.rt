@@ -4,7 +4,7 @@ ghost use Rattle.std.specs.Prelude.{◌≡◌};
 use refusal::Refusal;
 
 // How far a reader came. What it read is not put together: only the head of the value that a caller asks for is.
-#[derive(Drop)]
+#[derive(Clone, Copy)]
 pub enum Step {
     // The offset past what was read.
     To(usize),

@@ -8,7 +8,7 @@ use markers::extent::{Extent, MOST_OPEN, extent_at};
 use markers::kind::Container;
 
 // What stands at an offset of a message that was read already.
-#[derive(Drop)]
+#[derive(Clone, Copy)]
 pub enum Peeked {
     Value(Head),
     // No value begins there.
@@ -16,7 +16,7 @@ pub enum Peeked {
 }
 
 // Where a value of a message that was read already ends.
-#[derive(Drop)]
+#[derive(Clone, Copy)]
 pub enum Skipped {
     To(usize),
     // No value begins there.

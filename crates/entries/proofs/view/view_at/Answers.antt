@@ -1,0 +1,49 @@
+-- `entries::view::view_at` meets its contract: by the head that is found. Assumes nothing.
+use mathlib.Core.Path.{◌≡◌, sym, ap, ◌∙◌}
+use mir.Facts.{to_z-of_z}
+use borrow.Author.Rules.{sfits_of, rules}
+use borrow.Author.Tests.{eq-eqb, ne_eqb}
+use Rattle.values.specs.Walk.{peek_at}
+use Rattle.values.specs.declared.walk.Peeked.TheVariants as P
+use Rattle.entries.specs.View.{span}
+use Rattle.entries.specs.Walk.{string_found, view_head, view_at}
+use Rattle.entries.specs.declared.view.View.{View}
+use Rattle.entries.specs.declared.view.View.TheVariants as As
+use Rattle.entries.proofs.Peeking.{string-within}
+use Rattle.entries.proofs.Viewing.{view-is, of-no-use}
+use Rattle.entries.proofs.view.view_at.Goals as goal
+
+here : (d : tie.After-head) (v : View) → v ≡ view_head d.before.before.before.before.before.args.message.now d.head.given.0.0
+    → v ≡ view_at d.before.before.before.before.before.args.message.now d.before.before.before.before.before.args.place
+here d v e = view-is _ _ d.head.given.0.0 v d.before.before.before.if1.false (found d) e
+
+pub returns-then-place-eq0 : goal.returns-then-place-eq0
+returns-then-place-eq0 c = rw (eq-eqb _ _ c.if-place-eq0.true)
+
+pub returns-in_default : goal.returns-in_default
+returns-in_default c = rw (ne_eqb _ _ c.if-place-eq0.false, ← sym c.in_default.is ∙ c.peek.ensures)
+
+pub mode_named-mode-requires : goal.mode_named-mode-requires
+mode_named-mode-requires c = (string-within _ _ _ (ap string_found (ap P.Value (sym c.in-String.is) ∙ (sym c.in-Value.is ∙ c.peek.ensures)))).inside
+
+pub returns-in-Null : goal.returns-in-Null
+returns-in-Null c = here «After-head» _ (ap (view_head _) (sym c.in-Null.is))
+
+pub returns-in-String : goal.returns-in-String
+returns-in-String c =
+    let g = c.head-in-String-1.given in
+    here «After-head» _ (ap (As.String (span g.0.0 g.0.1.0)) c.mode_named-mode.ensures ∙ ap (view_head _) (sym g.1))
+
+pub returns-in-Integer : goal.returns-in-Integer
+returns-in-Integer c =
+    here «After-head» _
+    (ap As.Integer (to_z-of_z (sfits_of c.known_told-in-Integer-1.given.0.1)) ∙ ap (view_head _) (sym c.in-Integer.is))
+
+pub returns-in-List : goal.returns-in-List
+returns-in-List c = here «After-head» _ (ap As.List c.first_wrong.ensures ∙ ap (view_head _) (sym c.in-List.is))
+
+pub returns-in-Dictionary : goal.returns-in-Dictionary
+returns-in-Dictionary c = here «After-head» _ (ap (view_head _) (sym c.in-Dictionary.is))
+
+pub returns-in_default-head : goal.returns-in_default-head
+returns-in_default-head c = here «After-head» _ (of-no-use _ c.in-Value.head c.in_default-head.keys6)

@@ -1,0 +1,37 @@
+-- `markers::extent::leaf_extent` meets its contract. Assumes nothing.
+use mathlib.Core.Path.{◌≡◌, sym, ◌∙◌, subst}
+use Prim.Native.Nat.{◌+◌, ◌≤◌}
+use native.Mathlib.Omega.{arith}
+use borrow.Author.Rules.{rules}
+use denote.Enum.Declared.{tag_of}
+use lib.ListN.{length}
+use Rattle.numbers.specs.declared.Unsigned.{Unsigned}
+use Rattle.numbers.specs.declared.Unsigned.TheVariants as U
+use Rattle.numbers.specs.contracts.Unsigned as Un
+use Rattle.markers.specs.Extents.{size_at}
+use Rattle.markers.proofs.Extents.{NoNumber, size-inside, leaf-unsized, leaf-short, leaf-there}
+use Rattle.markers.proofs.extent.leaf_extent.Goals as goal
+
+pub returns-in_default : goal.returns-in_default
+returns-in_default c =
+    let a = c.args in
+    let e = c.size_at.ensures in
+    c.refused.ensures
+    ∙ leaf-unsized a.message.now a.at a.marker a.kind (subst (λ (u : Unsigned). NoNumber (tag_of Un.the_type u)) e c.in_default.keys2)
+
+pub overflow_add-start-2 : goal.overflow_add-start-2
+overflow_add-start-2 c = omega (arith, (let a = c.args in size-inside a.message.now a.at a.marker c.in-Number.n ((sym c.in-Number.is ∙ c.size_at.ensures)) c.requires.0 c.requires.1))
+
+pub overflow_sub-message : goal.overflow_sub-message
+overflow_sub-message c = (let a = c.args in size-inside a.message.now a.at a.marker c.in-Number.n ((sym c.in-Number.is ∙ c.size_at.ensures)) c.requires.0 c.requires.1)
+
+pub returns-then-message-start : goal.returns-then-message-start
+returns-then-message-start c =
+    let a = c.args in
+    c.refused-then-message-start.ensures
+    ∙ leaf-short a.message.now a.at a.marker a.kind c.in-Number.n ((sym c.in-Number.is ∙ c.size_at.ensures)) (omega (arith, (let a = c.args in size-inside a.message.now a.at a.marker c.in-Number.n ((sym c.in-Number.is ∙ c.size_at.ensures)) c.requires.0 c.requires.1), c.if-message-start.true))
+
+pub returns : goal.returns
+returns c =
+    let a = c.args in
+    leaf-there a.message.now a.at a.marker a.kind c.in-Number.n ((sym c.in-Number.is ∙ c.size_at.ensures)) (omega (arith, (let a = c.args in size-inside a.message.now a.at a.marker c.in-Number.n ((sym c.in-Number.is ∙ c.size_at.ensures)) c.requires.0 c.requires.1), c.if-message-start.false))

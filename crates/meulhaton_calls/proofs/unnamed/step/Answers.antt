@@ -1,0 +1,7 @@
+-- `meulhaton_calls::unnamed::step` meets its contract. Assumes nothing.
+use borrow.Author.Rules.{rules}
+use Rattle.meulhaton_calls.proofs.Replying.{replied}
+use Rattle.meulhaton_calls.proofs.unnamed.step.Goals as goal
+
+pub returns : goal.returns
+returns c = replied c.refuse.ensures c.refusal_of-why.ensures

@@ -1,0 +1,37 @@
+-- `record::names::qid_of` meets its contract: in each arm the match told which request it is. Assumes nothing.
+use borrow.Author.Rules.{rules}
+use mathlib.Core.Path.{sym, ap, ◌∙◌}
+use Rattle.states.proofs.Signed.{held}
+use Rattle.record.specs.Names.{qid_of}
+use Rattle.record.proofs.names.qid_of.Goals as goal
+
+pub returns-in-Hello : goal.returns-in-Hello
+returns-in-Hello c = ap qid_of (sym c.in-Hello.is)
+
+pub returns-in-Goodbye : goal.returns-in-Goodbye
+returns-in-Goodbye c = ap qid_of (sym c.in-Goodbye.is)
+
+pub returns-in-Reset : goal.returns-in-Reset
+returns-in-Reset c = ap qid_of (sym c.in-Reset.is)
+
+pub returns-in-Run : goal.returns-in-Run
+returns-in-Run c = ap qid_of (sym c.in-Run.is)
+
+pub returns-in-Begin : goal.returns-in-Begin
+returns-in-Begin c = ap qid_of (sym c.in-Begin.is)
+
+pub returns-in-Commit : goal.returns-in-Commit
+returns-in-Commit c = ap qid_of (sym c.in-Commit.is)
+
+pub returns-in-Rollback : goal.returns-in-Rollback
+returns-in-Rollback c = ap qid_of (sym c.in-Rollback.is)
+
+pub returns-in-Discard : goal.returns-in-Discard
+returns-in-Discard c =
+    let m = c.request-1.given in
+    held m.0.1.0 (record { sfits = c.known_told-1.given.1.0.1 }) ∙ ap qid_of (sym m.1)
+
+pub returns-in-Pull : goal.returns-in-Pull
+returns-in-Pull c =
+    let m = c.request-in-Pull-1.given in
+    held m.0.1.0 (record { sfits = c.known_told-in-Pull-1.given.1.0.1 }) ∙ ap qid_of (sym m.1)

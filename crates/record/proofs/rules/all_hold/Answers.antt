@@ -1,0 +1,54 @@
+-- `record::rules::all_hold` meets its contract: by the tests passed. Assumes nothing.
+use borrow.Author.Rules.{rules}
+use mathlib.Core.Path.{◌≡◌, refl, sym, ap, ◌∙◌}
+use mathlib.Core.Bool.{true, ◌&&◌}
+use borrow.Author.Tests.{not-true, not-false}
+use Rattle.states.specs.declared.state.State.{State}
+use Rattle.states.specs.Rules.{open_rule, counts_rule, numbers_rule}
+use Rattle.record.specs.Record.{state_in, open_in, places_in, bounded}
+use Rattle.record.specs.Private.Seen.{seen_of, seen_holds}
+use Rattle.record.proofs.Keeping.{bounds}
+use Rattle.record.proofs.Standing.{keeps-by}
+use Rattle.record.proofs.rules.all_hold.Goals as goal
+
+numbered : (d : tie.After-streams-hold) → let a = d.before.before.before.before.before.before.before.args in
+    (numbers_rule (open_in a.control a.streams.now) && open_rule (state_in a.control) (open_in a.control a.streams.now)) ≡ d.streams-hold.result
+numbered d =
+    let a = d.before.before.before.before.before.before.before.args in
+    let o = open_in a.control a.streams.now in
+    ap (λ (s : State). numbers_rule o && open_rule s o) (sym d.before.before.before.state-of.ensures) ∙ sym d.streams-hold.ensures
+
+seen : (d : tie.After-waiting-holds) → let a = d.before.before.before.before.before.before.before.before.before.before.args in
+    seen_holds (state_in a.control) (seen_of (places_in a.control a.kinds.now a.counts.now a.qids.now)) ≡ d.waiting-holds.result
+seen d = sym (d.waiting-holds.ensures ∙ (λ i. seen_holds (d.before.before.before.before.before.before.state-of.ensures i) (d.before.scan.ensures i)))
+
+pub returns-then-not-is_bounded : goal.returns-then-not-is_bounded
+returns-then-not-is_bounded c =
+    let a = c.args in
+    record { told = sym (keeps-by a.control a.streams.now a.kinds.now a.counts.now a.qids.now (sym c.is_bounded.ensures ∙ not-true _ c.if-not-is_bounded.true-raw) refl refl refl refl); sized = c.places.ensures.1 }
+
+pub returns-then-not-counts_hold : goal.returns-then-not-counts_hold
+returns-then-not-counts_hold c =
+    let a = c.args in
+    record { told = sym (keeps-by a.control a.streams.now a.kinds.now a.counts.now a.qids.now ((sym c.is_bounded.ensures ∙ not-false _ c.if-not-is_bounded.false-raw)) ((let k = c.args.control in ap (λ (s : State). counts_rule s k.waiting k.accepted k.sent) (sym c.state_of-state.ensures) ∙ sym c.counts_hold.ensures) ∙ not-true _ c.if-not-counts_hold.true-raw) refl refl refl); sized = c.places.ensures.1 }
+
+pub streams_hold-requires : goal.streams_hold-requires
+streams_hold-requires c = (bounds c.args.control ((sym c.is_bounded.ensures ∙ not-false _ c.if-not-is_bounded.false-raw))).fewer
+
+pub returns-then-not-streams_hold : goal.returns-then-not-streams_hold
+returns-then-not-streams_hold c =
+    let a = c.args in record { told = sym
+          (keeps-by a.control a.streams.now a.kinds.now a.counts.now a.qids.now ((sym c.is_bounded.ensures ∙ not-false _ c.if-not-is_bounded.false-raw)) ((let k = c.args.control in ap (λ (s : State). counts_rule s k.waiting k.accepted k.sent) (sym c.state_of-state.ensures) ∙ sym c.counts_hold.ensures) ∙ not-false _ c.if-not-counts_hold.false-raw)
+          (numbered «After-streams_hold» ∙ not-true _ c.if-not-streams_hold.true-raw) refl refl); sized = c.places.ensures.1 }
+
+pub returns-then-not-waiting_holds : goal.returns-then-not-waiting_holds
+returns-then-not-waiting_holds c =
+    let a = c.args in record { told = sym
+          (keeps-by a.control a.streams.now a.kinds.now a.counts.now a.qids.now ((sym c.is_bounded.ensures ∙ not-false _ c.if-not-is_bounded.false-raw)) ((let k = c.args.control in ap (λ (s : State). counts_rule s k.waiting k.accepted k.sent) (sym c.state_of-state.ensures) ∙ sym c.counts_hold.ensures) ∙ not-false _ c.if-not-counts_hold.false-raw)
+          (numbered «After-streams_hold» ∙ not-false _ c.if-not-streams_hold.false-raw) (seen «After-waiting_holds» ∙ not-true _ c.if-not-waiting_holds.true-raw) refl); sized = c.places.ensures.1 }
+
+pub returns : goal.returns
+returns c =
+    let a = c.args in record { told = sym
+          (keeps-by a.control a.streams.now a.kinds.now a.counts.now a.qids.now ((sym c.is_bounded.ensures ∙ not-false _ c.if-not-is_bounded.false-raw)) ((let k = c.args.control in ap (λ (s : State). counts_rule s k.waiting k.accepted k.sent) (sym c.state_of-state.ensures) ∙ sym c.counts_hold.ensures) ∙ not-false _ c.if-not-counts_hold.false-raw)
+          (numbered «After-streams_hold» ∙ not-false _ c.if-not-streams_hold.false-raw) (seen «After-waiting_holds» ∙ not-false _ c.if-not-waiting_holds.false-raw) (sym c.flight_holds.ensures)); sized = c.places.ensures.1 }

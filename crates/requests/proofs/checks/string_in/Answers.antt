@@ -1,0 +1,17 @@
+-- `requests::checks::string_in` meets its contract: by the kinds of the view. Assumes nothing.
+use mathlib.Core.Path.{sym, ap, ◌∙◌}
+use borrow.Author.Rules.{rules}
+use Rattle.requests.specs.Checks.{complaints}
+use Rattle.requests.specs.Requests.{refused_by}
+use Rattle.requests.specs.Private.Views.{string_as}
+use Rattle.requests.proofs.Checking.{not-string}
+use Rattle.requests.proofs.checks.string_in.Goals as goal
+
+pub returns-in-Absent : goal.returns-in-Absent
+returns-in-Absent c = ap (string_as complaints c.args.entry.place) (sym c.in-Absent.is)
+
+pub returns-in-String : goal.returns-in-String
+returns-in-String c = ap (string_as complaints c.args.entry.place) (sym c.in-String.is)
+
+pub returns-in_default : goal.returns-in_default
+returns-in_default c = let e = c.args.entry in ap refused_by c.complaint.ensures ∙ not-string e.place e.view c.in_default.keys3

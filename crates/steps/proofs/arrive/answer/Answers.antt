@@ -1,0 +1,6 @@
+-- `steps::arrive::answer` meets its contract. Assumes nothing.
+use borrow.Author.Rules.{rules}
+use Rattle.steps.proofs.arrive.answer.Goals as goal
+
+pub returns : goal.returns
+returns c = λ i. record { control = c.renewed.ensures i; answer = c.args.answer }

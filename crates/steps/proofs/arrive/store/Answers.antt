@@ -1,0 +1,17 @@
+-- `steps::arrive::store` meets its contract: each number is stored as it is. Assumes nothing.
+use borrow.Author.Rules.{rules}
+use mathlib.Core.Path.{ap, ◌∙◌}
+use lib.ListN.{set}
+use mir.Facts.{to_z-of_z}
+use Rattle.record.specs.Ring.{place}
+use Rattle.steps.proofs.arrive.store.Goals as goal
+
+pub returns : goal.returns
+returns c =
+    let a = c.args in (
+      ap (set a.kinds.now (place a.first a.waiting)) c.tag-kind.ensures,
+      (
+        ap (set a.counts.now (place a.first a.waiting)) (to_z-of_z (record { sfits = c.count_of-n.type-inv }) ∙ c.count_of-n.ensures),
+        ap (set a.qids.now (place a.first a.waiting)) (to_z-of_z (record { sfits = c.qid_of-qid.type-inv }) ∙ c.qid_of-qid.ensures),
+      ),
+    )

@@ -1,0 +1,6 @@
+-- `steps::report::answer` meets its contract. Assumes nothing.
+use borrow.Author.Rules.{rules}
+use Rattle.steps.proofs.report.answer.Goals as goal
+
+pub returns : goal.returns
+returns c = λ i. record { control = c.renewed.ensures i; answer = c.args.answer }

@@ -1,0 +1,6 @@
+-- `steps::take::answer` meets its contract. Assumes nothing.
+use borrow.Author.Rules.{rules}
+use Rattle.steps.proofs.take.answer.Goals as goal
+
+pub returns : goal.returns
+returns c = λ i. record { control = c.renewed.ensures i; answer = c.args.answer }

@@ -1,0 +1,41 @@
+-- `steps::take::step` meets its contract: by the tests passed. Assumes nothing.
+use borrow.Author.Rules.{rules}
+use mathlib.Core.Path.{◌≡◌, ap, ◌∙◌}
+use mathlib.Core.Bool.{true, false}
+use Prim.Native.Nat.{◌<◌}
+use native.Mathlib.Omega.{arith}
+use Rattle.states.specs.declared.state.State.TheVariants.{Defunct}
+use Rattle.states.specs.Requests.{in_state}
+use Rattle.states.specs.Table.{take_t}
+use Rattle.record.specs.declared.record.Connection.{Connection}
+use Rattle.record.specs.Record.{joined, state_in, kept, keeps_rules}
+use Rattle.record.specs.Calls.{After, nowhere}
+use Rattle.record.proofs.Standing.{kept-bounded, room}
+use Rattle.steps.specs.declared.after.AfterTake.{AfterTake}
+use Rattle.steps.specs.Steps.{told_take}
+use Rattle.steps.proofs.Calls.{breaks, keeps, state-test, broken, refuse-defunct}
+use Rattle.steps.proofs.Leaving.{stays-in-flight, stays-empty, comes-to-turn}
+use Rattle.steps.proofs.take.step.Goals as goal
+
+pub returns-then-not-keeps : goal.returns-then-not-keeps
+returns-then-not-keeps c = ap ((λ (r : AfterTake). told_take r c.args.streams.now c.args.kinds.now c.args.counts.now c.args.qids.now)) c.answer.ensures ∙ broken nowhere ((joined c.args.control c.args.streams.now c.args.kinds.now c.args.counts.now c.args.qids.now)) (take_t (kept ((joined c.args.control c.args.streams.now c.args.kinds.now c.args.counts.now c.args.qids.now)))) (breaks ((joined c.args.control c.args.streams.now c.args.kinds.now c.args.counts.now c.args.qids.now)) c.keeps_rules-keeps.ensures.told c.if-not-keeps.true-raw)
+
+pub returns-then-is_in : goal.returns-then-is_in
+returns-then-is_in c =
+    ap ((λ (r : AfterTake). told_take r c.args.streams.now c.args.kinds.now c.args.counts.now c.args.qids.now)) c.answer-then-is_in.ensures
+    ∙ refuse-defunct nowhere ((joined c.args.control c.args.streams.now c.args.kinds.now c.args.counts.now c.args.qids.now)) _ ((keeps ((joined c.args.control c.args.streams.now c.args.kinds.now c.args.counts.now c.args.qids.now)) c.keeps_rules-keeps.ensures.told c.if-not-keeps.false-raw)) (state-test c.args.control Defunct c.state_of-state.ensures c.is_in.ensures c.if-is_in.true)
+
+pub returns-then-control-eq1 : goal.returns-then-control-eq1
+returns-then-control-eq1 c = ap ((λ (r : AfterTake). told_take r c.args.streams.now c.args.kinds.now c.args.counts.now c.args.qids.now)) c.answer-then-control-eq1.ensures ∙ stays-in-flight ((joined c.args.control c.args.streams.now c.args.kinds.now c.args.counts.now c.args.qids.now)) ((keeps ((joined c.args.control c.args.streams.now c.args.kinds.now c.args.counts.now c.args.qids.now)) c.keeps_rules-keeps.ensures.told c.if-not-keeps.false-raw)) c.keeps_rules-keeps.ensures.sized ((state-test c.args.control Defunct c.state_of-state.ensures c.is_in.ensures c.if-is_in.false)) c.if-control-eq1.true
+
+pub returns-then-control-eq0 : goal.returns-then-control-eq0
+returns-then-control-eq0 c = ap ((λ (r : AfterTake). told_take r c.args.streams.now c.args.kinds.now c.args.counts.now c.args.qids.now)) c.answer-then-control-eq0.ensures ∙ stays-empty ((joined c.args.control c.args.streams.now c.args.kinds.now c.args.counts.now c.args.qids.now)) ((keeps ((joined c.args.control c.args.streams.now c.args.kinds.now c.args.counts.now c.args.qids.now)) c.keeps_rules-keeps.ensures.told c.if-not-keeps.false-raw)) c.keeps_rules-keeps.ensures.sized ((state-test c.args.control Defunct c.state_of-state.ensures c.is_in.ensures c.if-is_in.false)) c.if-control-eq1.false c.if-control-eq0.true
+
+pub take_first-requires : goal.take_first-requires
+take_first-requires c =
+    let a = c.args in
+    let some : 0 < a.control.waiting = omega (arith, c.if-control-eq0.false) in
+    (record { bounds = kept-bounded ((joined c.args.control c.args.streams.now c.args.kinds.now c.args.counts.now c.args.qids.now)) ((keeps ((joined c.args.control c.args.streams.now c.args.kinds.now c.args.counts.now c.args.qids.now)) c.keeps_rules-keeps.ensures.told c.if-not-keeps.false-raw)); some = some; below = room a.control a.streams.now a.kinds.now a.counts.now a.qids.now ((keeps ((joined c.args.control c.args.streams.now c.args.kinds.now c.args.counts.now c.args.qids.now)) c.keeps_rules-keeps.ensures.told c.if-not-keeps.false-raw)) ((state-test c.args.control Defunct c.state_of-state.ensures c.is_in.ensures c.if-is_in.false)) some }, c.keeps_rules-keeps.ensures.sized)
+
+pub returns : goal.returns
+returns c = comes-to-turn ((joined c.args.control c.args.streams.now c.args.kinds.now c.args.counts.now c.args.qids.now)) ((keeps ((joined c.args.control c.args.streams.now c.args.kinds.now c.args.counts.now c.args.qids.now)) c.keeps_rules-keeps.ensures.told c.if-not-keeps.false-raw)) c.keeps_rules-keeps.ensures.sized ((state-test c.args.control Defunct c.state_of-state.ensures c.is_in.ensures c.if-is_in.false)) c.if-control-eq1.false c.take_first.ensures

@@ -1,0 +1,20 @@
+-- `summaries::summary::pack_failure` meets its contract. Assumes nothing.
+use Rattle.states.specs.declared.answers.Failure.TheVariants as F
+use Rattle.summaries.proofs.Summaries.{same-form, failure-form}
+use borrow.Author.Rules.{rules}
+use Rattle.summaries.proofs.summary.pack_failure.Goals as goal
+
+pub returns-in-StreamsFull : goal.returns-in-StreamsFull
+returns-in-StreamsFull c =
+    let a = c.args in let p = c.pack_form in
+    rw c.in-StreamsFull.is (same-form a.out.now a.at p.result _ (failure-form F.StreamsFull) p.ensures)
+
+pub returns-in-StreamUnknown : goal.returns-in-StreamUnknown
+returns-in-StreamUnknown c =
+    let a = c.args in let p = c.pack_form-in-StreamUnknown in
+    rw c.in-StreamUnknown.is (same-form a.out.now a.at p.result _ (failure-form F.StreamUnknown) p.ensures)
+
+pub returns-in-EngineFailed : goal.returns-in-EngineFailed
+returns-in-EngineFailed c =
+    let a = c.args in let p = c.pack_form-in-EngineFailed in
+    rw c.in-EngineFailed.is (same-form a.out.now a.at p.result _ (failure-form F.EngineFailed) p.ensures)

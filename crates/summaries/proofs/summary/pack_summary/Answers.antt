@@ -1,0 +1,23 @@
+-- `summaries::summary::pack_summary` meets its contract. Assumes nothing.
+use Rattle.summaries.proofs.Summaries.{same-form, ignored-form, success-form}
+use borrow.Author.Rules.{rules}
+use Rattle.summaries.proofs.summary.pack_summary.Goals as goal
+
+pub returns-in-Ignored : goal.returns-in-Ignored
+returns-in-Ignored c =
+    let a = c.args in let p = c.pack_form in
+    rw c.in-Ignored.is (same-form a.out.now a.at p.result _ ignored-form p.ensures)
+
+pub returns-in-Success : goal.returns-in-Success
+returns-in-Success c =
+    let a = c.args in let p = c.pack_form-in-Success in
+    rw c.in-Success.is (same-form a.out.now a.at p.result _ success-form p.ensures)
+
+pub returns-in-HasMore : goal.returns-in-HasMore
+returns-in-HasMore c = rw c.in-HasMore.is c.pack_has_more.ensures
+
+pub returns-in-Stream : goal.returns-in-Stream
+returns-in-Stream c = rw c.in-Stream.is c.pack_stream.ensures
+
+pub returns-in-Failure : goal.returns-in-Failure
+returns-in-Failure c = rw c.in-Failure.is c.pack_failure.ensures

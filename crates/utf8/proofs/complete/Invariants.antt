@@ -1,0 +1,14 @@
+-- `utf8::complete` meets its contract. The loop's invariant: i bytes of the sequence are read. Assumes nothing.
+use mathlib.Core.Path.{sym, ◌∙◌}
+use Prim.Native.Nat.{◌-◌}
+use native.Mathlib.Omega.{arith}
+use borrow.Author.Rules.{rules}
+use borrow.Author.Tests.{not-true, not-false}
+use Rattle.utf8.proofs.Sequences.{Reading, reading, cut_off, room, no-continuation, continued, overlong, no-scalar, well-formed}
+use Rattle.utf8.proofs.complete.Given as goal
+
+abbrev pub invariant-loop-i : goal.invariant-loop-i
+invariant-loop-i l = Reading l.bytes l.at l.size l.least l.bits l.scalar l.i
+
+abbrev pub decreases-loop-i : goal.decreases-loop-i
+decreases-loop-i l = l.size - l.i
