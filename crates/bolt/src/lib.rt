@@ -1,5 +1,7 @@
 // What Bolt 4 fixes for several layers: how long a message may be, and the ranges of n and qid; the requests and their tags stand in
 // specs/Requests.antt.
+#![tactic(auto)]
+
 ghost use Rattle.std.specs.Prelude.{◌≡◌};
 ghost use Rattle.bolt.specs.Ranges.{minus_one_or};
 

@@ -15,6 +15,8 @@
 // n (8) and qid (8). Operations 10 to 17 work on one record, which is fresh at first; 18 on a fresh one of its own. Operation 17 sets a place
 // of the ring, below 32, to numbers that need name no request, whether one waits there or not. A line that begins with `#` names the lines
 // behind it, and is written as it stands.
+#![tactic(auto)]
+
 mod answers;
 mod by_value;
 mod conversation;

@@ -1,5 +1,7 @@
 // The calls on a connection record that stays where it lies: each lends the record's arrays to the step and stores the control that the step
 // leaves. Document 01, "Connection record": "One connection record stays where it lies and each call changes it there".
+#![tactic(auto)]
+
 ghost use Rattle.std.specs.Prelude.{◌≡◌};
 ghost use Rattle.states.specs.Answers.{told_arrival, told_taken, told_reported, told_closing};
 ghost use Rattle.record.specs.Calls.{arrive_of, take_of, report_of, close_of};

@@ -1,5 +1,7 @@
 // The entries of a request's Dictionaries: where the value under each known name stands, and what kind of value it is. The message was read
 // already: nothing of it is checked again. Document 01, "Requests".
+#![tactic(auto)]
+
 mod key; // key.rt: which known name a key is
 pub mod names; // names.rt: the numbers of the known names
 pub mod view; // view.rt: values as far as a request looks at them

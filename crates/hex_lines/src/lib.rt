@@ -1,5 +1,7 @@
 // Lines of upper-case hexadecimal digits, to bytes and back: two digits a byte, the high one first. The line's end is no part of it.
 // Document 01, "Bench trial program", and refusals 21 and 23.
+#![tactic(auto)]
+
 ghost use Rattle.std.specs.Prelude.{◌≡◌, true, cond, ◌*◌, ◌/◌, ◌≤◌, ◌<◌, length};
 ghost use Rattle.slices.specs.Parts.{front};
 ghost use Rattle.refusal.specs.Answer.{counted, left};

@@ -1,5 +1,7 @@
 // Lines of a stream that comes block by block: a line is held in fixed memory until its end has come. Document 01, "Bench trial program": a
 // line ends with 0A, which the last may lack.
+#![tactic(auto)]
+
 ghost use Rattle.std.specs.Prelude.{◌≡◌, length, take};
 ghost use Rattle.slices.specs.Parts.{front};
 ghost use Rattle.lines.specs.Lines.{first_line, first_lines, has_end};

@@ -1,4 +1,6 @@
 // The calls on a connection record in numbers: their arguments, and what they answer.
+#![tactic(auto)]
+
 pub mod arguments; // arguments.rt: what the arguments name
 pub mod replies; // replies.rt: what the calls answer
 pub mod summary; // summary.rt: summaries by their numbers

@@ -1,5 +1,7 @@
 // Numbers in byte slices, the highest byte first: unsigned, as sizes are stored, and in two's complement, as integers are
 // (document 01, "Values"). A number is 1, 2, 4 or 8 bytes wide; one loop reads every width, and one writes it.
+#![tactic(auto)]
+
 ghost use Rattle.std.specs.Prelude.{◌≡◌, ◌+◌, ◌-◌, ◌^◌, ◌≤◌, ◌<◌, true, cond, ◌&&◌, leb};
 ghost use Rattle.std.specs.Int.Signed.{mag};
 ghost use Rattle.slices.specs.Parts.{reaches};

@@ -1,5 +1,7 @@
 // Packing values, each in its shortest form. A packer writes from an offset of a lent buffer on, so that pieces are packed one behind
 // the other: the headers of Structures and Dictionaries, then what these hold. A refused packer has written nothing.
+#![tactic(auto)]
+
 ghost use Rattle.std.specs.Prelude.{◌≡◌, ◌+◌, ◌≤◌, ◌<◌, length};
 ghost use Rattle.std.proofs.lemmas.List.Edits.{sets};
 ghost use Rattle.refusal.specs.Answer.{returned, left};

@@ -1,5 +1,7 @@
 // Why a call was refused. Every layer refuses with one of these, and a refused call has changed nothing: it consumed no
 // input, and what was lent to it stands as it stood. Document 01, "Refusal numbers"; 25 to 27 are document 02's.
+#![tactic(auto)]
+
 ghost use Rattle.std.specs.Prelude.{◌≡◌};
 ghost use Rattle.refusal.specs.Numbers.{number_of};
 ghost use Rattle.refusal.specs.Answer.{closes_after};

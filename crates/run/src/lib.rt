@@ -1,6 +1,8 @@
 // A run of the bench trial that comes in blocks, as a stream is read: each block is cut into lines, and each line that ends in it is handled.
 // Document 01, "Bench trial program". Whatever the blocks, what is written for them is what the whole input means: specs/Whole.antt.
 // The arrays of the connection's record are lent from block to block.
+#![tactic(auto)]
+
 ghost use Rattle.std.specs.Prelude.{◌≡◌, ◌≤◌, pos, length, replicate};
 ghost use Rattle.slices.specs.Parts.{front};
 ghost use Rattle.lines.specs.Lines.{first_lines};

@@ -1,5 +1,7 @@
 // Serving: take and report, with plain success, by turns, and what a refusal leaves. The record's control goes in and out by value; its arrays
 // are lent where they lie.
+#![tactic(auto)]
+
 ghost use Rattle.std.specs.Prelude.{◌≡◌};
 ghost use Rattle.refusal.specs.Numbers.{number_of};
 ghost use Rattle.states.specs.declared.answers.Outcome.TheVariants.{Success};

@@ -1,5 +1,7 @@
 // A session of the bench trial: lines of hexadecimal come in, the handshake first and then one frame a line, and what is sent goes out as
 // lines. Document 01, "Bench trial program".
+#![tactic(auto)]
+
 pub mod line; // line.rt: one more line
 pub mod phase; // phase.rt: a session, and how far it has come
 mod receive; // receive.rt: what a line brings

@@ -1,5 +1,7 @@
 // Parts of byte slices: a copy from one slice into another, and how much of one there is room for. Document 01 says of every writer that the
 // bytes past its output stay; here is the one place where bytes are copied.
+#![tactic(auto)]
+
 ghost use Rattle.std.specs.Prelude.{◌≡◌, ◌+◌, ◌≤◌, min, length};
 ghost use Rattle.slices.specs.Parts.{copied, fits};
 

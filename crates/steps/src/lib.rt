@@ -1,5 +1,7 @@
 // The four steps on the parts of a connection record: the control goes in and out by value, the arrays are lent where they lie. `arrive` is
 // lent the queue to store one request in it; the others cannot write it.
+#![tactic(auto)]
+
 pub mod after; // after.rt: what a step leaves of the control, and answers
 pub mod arrive; // arrive.rt: a request comes
 mod changes; // changes.rt: what the steps change in the control

@@ -1,5 +1,7 @@
 // The bench trial, from standard input to standard output: blocks are read, handed over, and what they lead to is written, until the input
 // ends, the connection closes or a line is refused. Document 01, "Bench trial program". What the whole input leads to: crates/run.
+#![tactic(auto)]
+
 ghost use Rattle.std.specs.Prelude.{◌≡◌, ◌≤◌, length, take};
 ghost use Rattle.session.specs.Room.{enough};
 ghost use Rattle.run.specs.Run.{progress_of, cut_in, step_in};

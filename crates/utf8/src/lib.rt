@@ -1,6 +1,8 @@
 // The UTF-8 check of a String's content: document 01, "Values", and RFC 3629, section 3. It goes by runs of ASCII and by whole sequences:
 // the count of leading one bits in the lead byte gives the sequence's length, and its scalar value is put together by shifts, so that
 // surrogates, overlong forms and numbers above 10FFFF are seen as numbers.
+#![tactic(auto)]
+
 mod ascii; // ascii.rt: runs of ASCII
 
 ghost use Rattle.std.specs.Prelude.{◌≡◌, ◌+◌, ◌*◌, ◌%◌, ◌^◌, ◌≤◌, ◌<◌, length, get_or, drop};

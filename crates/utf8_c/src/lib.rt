@@ -1,4 +1,6 @@
 // The UTF-8 check as a function for C: rust/bench times it alone, without the readers that call it.
+#![tactic(auto)]
+
 ghost use Rattle.std.specs.Prelude.{◌≡◌};
 ghost use Rattle.utf8.specs.Utf8.{utf8};
 

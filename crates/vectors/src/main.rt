@@ -18,6 +18,8 @@
 //
 // A refusal is FF, its number (1), its place (4). A line that is no vector gives FE. A line that begins with # names the group of those
 // behind it, and is written as it stands.
+#![tactic(auto)]
+
 mod answers;
 mod operands;
 mod requests_read;

@@ -61,10 +61,10 @@ returns-in_default-skip c =
 pub loop-i-preserved : goal.loop-i-preserved
 loop-i-preserved c =
     let a = c.args in let l = c.loop-i in (
-  omega arith,
-  one-noted a.message.now a.count a.first l.i l.at l.found l.invariant.1 c.loop-i-test.true _ (key-found «After-known_told») _ c.number_of-number.ensures _
-      (sym c.in-To.is ∙ c.skip.ensures),
-)
+      omega arith,
+      one-noted a.message.now a.count a.first l.i l.at l.found l.invariant.1 c.loop-i-test.true _ (key-found «After-known_told») _ c.number_of-number.ensures _
+          (sym c.in-To.is ∙ c.skip.ensures),
+    )
 
 pub returns : goal.returns
 returns c = let a = c.args in let l = c.loop-i in all_noted a.message.now a.count a.first l.i l.at l.found l.invariant.1 (omega arith)

@@ -27,5 +27,8 @@ store-requires c = width-most _ ((passed c.is_width.ensures c.if-not-is_width.fa
 pub returns : goal.returns
 returns c =
     let a = c.args in
-    let l = c.largest.ensures in record { answer = c.store.ensures.answer
-          ∙ storing-held _ a.bytes.now a.at a.width ((passed c.is_width.ensures c.if-not-is_width.false-raw)) (holds-yes a.width a.number (omega arith)); filled = c.store.ensures.filled }
+    let l = c.largest.ensures in record {
+      answer = c.store.ensures.answer
+          ∙ storing-held _ a.bytes.now a.at a.width ((passed c.is_width.ensures c.if-not-is_width.false-raw)) (holds-yes a.width a.number (omega arith));
+      filled = c.store.ensures.filled;
+    }

@@ -33,10 +33,10 @@ pub loop-i-preserved : goal.loop-i-preserved
 unfolding spaced
 loop-i-preserved c =
     let a = c.args in let h = c.requires in let l = c.loop-i in (
-  omega arith,
-  one-equal a.message.now a.start written (start_of a.number) a.size l.i l.invariant.1 c.loop-i-test.true h.0
-      (its-room a.number h.1 a.size h.2) c.if-message-start.false,
-)
+      omega arith,
+      one-equal a.message.now a.start written (start_of a.number) a.size l.i l.invariant.1 c.loop-i-test.true h.0
+          (its-room a.number h.1 a.size h.2) c.if-message-start.false,
+    )
 
 pub returns : goal.returns
 returns c =

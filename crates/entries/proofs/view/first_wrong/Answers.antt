@@ -28,10 +28,10 @@ overflow_add-at c =
 pub loop-i-preserved : goal.loop-i-preserved
 loop-i-preserved c =
     let a = c.args in let l = c.loop-i in (
-  omega arith,
-  wrong-later a.message.now a.count a.first l.i l.at l.invariant.1 c.loop-i-test.true _
-      (sym c.in-At.is ∙ c.string_at.ensures),
-)
+      omega arith,
+      wrong-later a.message.now a.count a.first l.i l.at l.invariant.1 c.loop-i-test.true _
+          (sym c.in-At.is ∙ c.string_at.ensures),
+    )
 
 pub returns : goal.returns
 returns c =

@@ -30,14 +30,12 @@ pub returns-in-Null : goal.returns-in-Null
 returns-in-Null c = here «After-head» _ (ap (view_head _) (sym c.in-Null.is))
 
 pub returns-in-String : goal.returns-in-String
-returns-in-String c =
-    let g = c.head-in-String-1.given in
-    here «After-head» _ (ap (As.String (span g.0.0 g.0.1.0)) c.mode_named-mode.ensures ∙ ap (view_head _) (sym g.1))
+returns-in-String c = here «After-head» _ (ap (As.String (span c.in-String.start c.in-String.size)) c.mode_named-mode.ensures ∙ ap (view_head _) (sym c.in-String.is))
 
 pub returns-in-Integer : goal.returns-in-Integer
 returns-in-Integer c =
     here «After-head» _
-    (ap As.Integer (to_z-of_z (sfits_of c.known_told-in-Integer-1.given.0.1)) ∙ ap (view_head _) (sym c.in-Integer.is))
+    (ap As.Integer (to_z-of_z (sfits_of c.in-Integer.known_told-in-Integer-1-own.given.0.1)) ∙ ap (view_head _) (sym c.in-Integer.is))
 
 pub returns-in-List : goal.returns-in-List
 returns-in-List c = here «After-head» _ (ap As.List c.first_wrong.ensures ∙ ap (view_head _) (sym c.in-List.is))
@@ -46,4 +44,4 @@ pub returns-in-Dictionary : goal.returns-in-Dictionary
 returns-in-Dictionary c = here «After-head» _ (ap (view_head _) (sym c.in-Dictionary.is))
 
 pub returns-in_default-head : goal.returns-in_default-head
-returns-in_default-head c = here «After-head» _ (of-no-use _ c.in-Value.head c.in_default-head.keys6)
+returns-in_default-head c = here «After-head» _ (of-no-use _ c.in-Value.head c.in-Null.in-Null-own.keys6)

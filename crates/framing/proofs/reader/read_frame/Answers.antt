@@ -20,13 +20,19 @@ returns-in-Message c =
 pub returns-in-KeepAlive : goal.returns-in-KeepAlive
 returns-in-KeepAlive c =
     let e = c.allows_keep_alive-keep_alive.ensures in
-    let a = c.args in record { answer = c.scan-found.ensures ∙ rw e refl; filled = rw (← e)
+    let a = c.args in record {
+      answer = c.scan-found.ensures ∙ rw e refl;
+      filled = rw (← e)
           (told-keep-alive (frame_of c.allows_keep_alive-keep_alive.result (length a.buffer.now) a.input.now) a.buffer.now
-          (ap told (sym c.in-KeepAlive.is) ∙ c.scan-found.ensures)) }
+          (ap told (sym c.in-KeepAlive.is) ∙ c.scan-found.ensures));
+    }
 
 pub returns-in-Refused : goal.returns-in-Refused
 returns-in-Refused c =
     let e = c.allows_keep_alive-keep_alive.ensures in
-    let a = c.args in record { answer = c.scan-found.ensures ∙ rw e refl; filled = rw (← e)
+    let a = c.args in record {
+      answer = c.scan-found.ensures ∙ rw e refl;
+      filled = rw (← e)
           (told-refused (frame_of c.allows_keep_alive-keep_alive.result (length a.buffer.now) a.input.now) a.buffer.now
-          (ap told (sym c.in-Refused.is) ∙ c.scan-found.ensures)) }
+          (ap told (sym c.in-Refused.is) ∙ c.scan-found.ensures));
+    }

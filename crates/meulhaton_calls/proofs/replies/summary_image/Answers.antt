@@ -12,9 +12,7 @@ pub returns-in-Success : goal.returns-in-Success
 returns-in-Success c = c.summary_numbers-in-Success.ensures ∙ ap summary_image (sym c.in-Success.is)
 
 pub returns-in-HasMore : goal.returns-in-HasMore
-returns-in-HasMore c =
-    let h = c.summary-1.given in
-    c.summary_numbers-in-HasMore.ensures ∙ ap (summary_numbers 3) (as_number h.0.0) ∙ ap summary_image (sym h.1)
+returns-in-HasMore c = c.summary_numbers-in-HasMore.ensures ∙ ap (summary_numbers 3) (as_number c.in-HasMore.more) ∙ ap summary_image (sym c.in-HasMore.is)
 
 pub returns-in-Stream : goal.returns-in-Stream
 returns-in-Stream c = c.summary_numbers-in-Stream.ensures ∙ ap summary_image (sym c.in-Stream.is)

@@ -11,4 +11,4 @@ pub returns-in-Absent : goal.returns-in-Absent
 returns-in-Absent c = ap number_image (sym c.in-Absent.is)
 
 pub returns-in-Is : goal.returns-in-Is
-returns-in-Is c = ap (λ (z : ℤ). number_image (Is z)) (to_z-of_z (sfits_of c.known_told-1.given.0.1)) ∙ ap number_image (sym c.in-Is.is)
+returns-in-Is c = ap (λ (z : ℤ). number_image (Is z)) (to_z-of_z (sfits_of c.in-Is.known_told-1-own.given.0.1)) ∙ ap number_image (sym c.in-Is.is)

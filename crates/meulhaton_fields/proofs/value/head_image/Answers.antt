@@ -15,7 +15,7 @@ pub returns-in-Boolean : goal.returns-in-Boolean
 returns-in-Boolean c = c.plain-in-Boolean.ensures ∙ ap (λ (b : ℕ). plain 2 b (pos 0) 0) (as_number c.in-Boolean.value) ∙ ap head_image (sym c.in-Boolean.is)
 
 pub returns-in-Integer : goal.returns-in-Integer
-returns-in-Integer c = c.plain-in-Integer.ensures ∙ ap (λ (z : ℤ). plain 3 0 z 0) (to_z-of_z (sfits_of c.known_told-in-Integer-1.given.0.1)) ∙ ap head_image (sym c.in-Integer.is)
+returns-in-Integer c = c.plain-in-Integer.ensures ∙ ap (λ (z : ℤ). plain 3 0 z 0) (to_z-of_z (sfits_of c.in-Integer.known_told-in-Integer-1-own.given.0.1)) ∙ ap head_image (sym c.in-Integer.is)
 
 pub returns-in-Float : goal.returns-in-Float
 returns-in-Float c = c.plain-in-Float.ensures ∙ ap head_image (sym c.in-Float.is)

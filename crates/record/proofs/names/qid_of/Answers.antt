@@ -27,11 +27,7 @@ pub returns-in-Rollback : goal.returns-in-Rollback
 returns-in-Rollback c = ap qid_of (sym c.in-Rollback.is)
 
 pub returns-in-Discard : goal.returns-in-Discard
-returns-in-Discard c =
-    let m = c.request-1.given in
-    held m.0.1.0 (record { sfits = c.known_told-1.given.1.0.1 }) ∙ ap qid_of (sym m.1)
+returns-in-Discard c = held c.in-Discard.qid (record { sfits = c.in-Discard.known_told-1-own.given.1.0.1 }) ∙ ap qid_of (sym c.in-Discard.is)
 
 pub returns-in-Pull : goal.returns-in-Pull
-returns-in-Pull c =
-    let m = c.request-in-Pull-1.given in
-    held m.0.1.0 (record { sfits = c.known_told-in-Pull-1.given.1.0.1 }) ∙ ap qid_of (sym m.1)
+returns-in-Pull c = held c.in-Pull.qid (record { sfits = c.in-Pull.known_told-in-Pull-1-own.given.1.0.1 }) ∙ ap qid_of (sym c.in-Pull.is)

@@ -37,18 +37,27 @@ streams_hold-requires c = (bounds c.args.control ((sym c.is_bounded.ensures ∙ 
 
 pub returns-then-not-streams_hold : goal.returns-then-not-streams_hold
 returns-then-not-streams_hold c =
-    let a = c.args in record { told = sym
+    let a = c.args in record {
+      told = sym
           (keeps-by a.control a.streams.now a.kinds.now a.counts.now a.qids.now ((sym c.is_bounded.ensures ∙ not-false _ c.if-not-is_bounded.false-raw)) ((let k = c.args.control in ap (λ (s : State). counts_rule s k.waiting k.accepted k.sent) (sym c.state_of-state.ensures) ∙ sym c.counts_hold.ensures) ∙ not-false _ c.if-not-counts_hold.false-raw)
-          (numbered «After-streams_hold» ∙ not-true _ c.if-not-streams_hold.true-raw) refl refl); sized = c.places.ensures.1 }
+          (numbered «After-streams_hold» ∙ not-true _ c.if-not-streams_hold.true-raw) refl refl);
+      sized = c.places.ensures.1;
+    }
 
 pub returns-then-not-waiting_holds : goal.returns-then-not-waiting_holds
 returns-then-not-waiting_holds c =
-    let a = c.args in record { told = sym
+    let a = c.args in record {
+      told = sym
           (keeps-by a.control a.streams.now a.kinds.now a.counts.now a.qids.now ((sym c.is_bounded.ensures ∙ not-false _ c.if-not-is_bounded.false-raw)) ((let k = c.args.control in ap (λ (s : State). counts_rule s k.waiting k.accepted k.sent) (sym c.state_of-state.ensures) ∙ sym c.counts_hold.ensures) ∙ not-false _ c.if-not-counts_hold.false-raw)
-          (numbered «After-streams_hold» ∙ not-false _ c.if-not-streams_hold.false-raw) (seen «After-waiting_holds» ∙ not-true _ c.if-not-waiting_holds.true-raw) refl); sized = c.places.ensures.1 }
+          (numbered «After-streams_hold» ∙ not-false _ c.if-not-streams_hold.false-raw) (seen «After-waiting_holds» ∙ not-true _ c.if-not-waiting_holds.true-raw) refl);
+      sized = c.places.ensures.1;
+    }
 
 pub returns : goal.returns
 returns c =
-    let a = c.args in record { told = sym
+    let a = c.args in record {
+      told = sym
           (keeps-by a.control a.streams.now a.kinds.now a.counts.now a.qids.now ((sym c.is_bounded.ensures ∙ not-false _ c.if-not-is_bounded.false-raw)) ((let k = c.args.control in ap (λ (s : State). counts_rule s k.waiting k.accepted k.sent) (sym c.state_of-state.ensures) ∙ sym c.counts_hold.ensures) ∙ not-false _ c.if-not-counts_hold.false-raw)
-          (numbered «After-streams_hold» ∙ not-false _ c.if-not-streams_hold.false-raw) (seen «After-waiting_holds» ∙ not-false _ c.if-not-waiting_holds.false-raw) (sym c.flight_holds.ensures)); sized = c.places.ensures.1 }
+          (numbered «After-streams_hold» ∙ not-false _ c.if-not-streams_hold.false-raw) (seen «After-waiting_holds» ∙ not-false _ c.if-not-waiting_holds.false-raw) (sym c.flight_holds.ensures));
+      sized = c.places.ensures.1;
+    }

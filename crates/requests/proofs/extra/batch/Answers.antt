@@ -41,6 +41,6 @@ returns-in-Wrong-integer_in c = rw (records «After-integer_in» c.in-Right.is, 
 pub returns : goal.returns
 unfolding batch_seen
 returns c =
-    let n = to_z-of_z {w = w64} {z = c.in-Is.value} (sfits_of c.known_told-in-Is-1.given.0.1) in
+    let n = to_z-of_z {w = w64} {z = c.in-Is.value} (sfits_of c.in-Is.known_told-in-Is-1-own.given.0.1) in
     let q = to_z-of_z {w = w64} {z = c.or_minus_one-qid.result} (record { sfits = c.or_minus_one-qid.type-inv }) ∙ c.or_minus_one-qid.ensures in
     rw (n, q, records «After-integer_in» c.in-Right.is, c.in-Is.is, stream «After-integer_in2» c.in-Right-integer_in.is)

@@ -9,4 +9,4 @@ pub returns-in-Absent : goal.returns-in-Absent
 returns-in-Absent c = ap or_minus_one (sym c.in-Absent.is)
 
 pub returns-in-Is : goal.returns-in-Is
-returns-in-Is c = to_z-of_z (sfits_of c.known_told-1.given.0.1) ∙ ap or_minus_one (sym c.in-Is.is)
+returns-in-Is c = to_z-of_z (sfits_of c.in-Is.known_told-1-own.given.0.1) ∙ ap or_minus_one (sym c.in-Is.is)

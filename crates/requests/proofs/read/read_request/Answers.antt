@@ -10,13 +10,12 @@ pub returns-in_default : goal.returns-in_default
 returns-in_default c =
     let a = c.args in ap told c.refused.ensures
     ∙ no-structure a.message.now c.in-Value.head c.in-Value.end (ap told_value (sym c.in-Value.is) ∙ c.read_message.ensures) a.version.minor
-    c.in_default.keys2
+    c.in-Structure.in-Structure-own.keys2
 
 pub returns-in-Structure : goal.returns-in-Structure
 returns-in-Structure c =
-    let a = c.args in let g = c.head-in-Value-1.given in
-    structure-there a.message.now c.in-Value.head c.in-Value.end (ap told_value (sym c.in-Value.is) ∙ c.read_message.ensures) a.version.minor
-    g.0.0 g.0.1.0 g.0.1.1.0 (sym g.1) c.by_tag.result c.by_tag.ensures
+    let a = c.args in structure-there a.message.now c.in-Value.head c.in-Value.end (ap told_value (sym c.in-Value.is) ∙ c.read_message.ensures) a.version.minor
+    c.in-Structure.tag c.in-Structure.first c.in-Structure.count (sym c.in-Structure.is) c.by_tag.result c.by_tag.ensures
 
 pub returns-in-Refused : goal.returns-in-Refused
 returns-in-Refused c = let a = c.args in value-refused a.message.now _ _ a.version.minor (ap told_value (sym c.in-Refused.is) ∙ c.read_message.ensures)

@@ -6,11 +6,7 @@ use Rattle.states.proofs.Signed.{held}
 use Rattle.states.proofs.request.asked_for.Goals as goal
 
 pub returns-in-Discard : goal.returns-in-Discard
-returns-in-Discard c =
-    let m = c.request-1.given in
-    c.stream_of.ensures ∙ ap asked_by (held m.0.1.0 (record { sfits = c.known_told-1.given.1.0.1 })) ∙ ap asked (sym m.1)
+returns-in-Discard c = c.stream_of.ensures ∙ ap asked_by (held c.in-Discard.qid (record { sfits = c.in-Discard.known_told-1-own.given.1.0.1 })) ∙ ap asked (sym c.in-Discard.is)
 
 pub returns-in-Pull : goal.returns-in-Pull
-returns-in-Pull c =
-    let m = c.request-in-Pull-1.given in
-    c.stream_of-in-Pull.ensures ∙ ap asked_by (held m.0.1.0 (record { sfits = c.known_told-in-Pull-1.given.1.0.1 })) ∙ ap asked (sym m.1)
+returns-in-Pull c = c.stream_of-in-Pull.ensures ∙ ap asked_by (held c.in-Pull.qid (record { sfits = c.in-Pull.known_told-in-Pull-1-own.given.1.0.1 })) ∙ ap asked (sym c.in-Pull.is)

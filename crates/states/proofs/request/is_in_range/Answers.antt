@@ -9,16 +9,12 @@ use Rattle.states.proofs.request.is_in_range.Goals as goal
 
 pub returns-in-Discard : goal.returns-in-Discard
 returns-in-Discard c =
-    let m = c.request-1.given in
-    let g = c.known_told-1.given in
     c.are_in_range.ensures
-    ∙ (λ i. minus_one_or 1 (held m.0.0 (record { sfits = g.0.1 }) i) && minus_one_or 0 (held m.0.1.0 (record { sfits = g.1.0.1 }) i))
-    ∙ ap in_range (sym m.1)
+    ∙ (λ i. minus_one_or 1 (held c.in-Discard.n (record { sfits = c.in-Discard.known_told-1-own.given.0.1 }) i) && minus_one_or 0 (held c.in-Discard.qid (record { sfits = c.in-Discard.known_told-1-own.given.1.0.1 }) i))
+    ∙ ap in_range (sym c.in-Discard.is)
 
 pub returns-in-Pull : goal.returns-in-Pull
 returns-in-Pull c =
-    let m = c.request-in-Pull-1.given in
-    let g = c.known_told-in-Pull-1.given in
     c.are_in_range-in-Pull.ensures
-    ∙ (λ i. minus_one_or 1 (held m.0.0 (record { sfits = g.0.1 }) i) && minus_one_or 0 (held m.0.1.0 (record { sfits = g.1.0.1 }) i))
-    ∙ ap in_range (sym m.1)
+    ∙ (λ i. minus_one_or 1 (held c.in-Pull.n (record { sfits = c.in-Pull.known_told-in-Pull-1-own.given.0.1 }) i) && minus_one_or 0 (held c.in-Pull.qid (record { sfits = c.in-Pull.known_told-in-Pull-1-own.given.1.0.1 }) i))
+    ∙ ap in_range (sym c.in-Pull.is)

@@ -84,8 +84,7 @@ loop-i-preserved c =
 
 pub search-preserved : goal.search-preserved
 search-preserved c =
-    let a = c.args in
-    (
+    let a = c.args in (
       omega arith,
       c.search.invariant.1,
       other_key a.message.now a.scratch.now a.base (part a.message.now a.start a.size) a.count c.search.left c.search.invariant.2 c.search-test.true

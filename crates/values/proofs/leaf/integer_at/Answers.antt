@@ -14,10 +14,10 @@ pub returns-in_default : goal.returns-in_default
 returns-in_default c =
     let a = c.args in
     absurd (signed-there a.message.now a.start a.size c.requires.0 c.requires.1
-    (subst (λ (u : Signed). NoNumber (tag_of Sg.the_type u)) c.read_signed.ensures c.in_default.keys2))
+    (subst (λ (u : Signed). NoNumber (tag_of Sg.the_type u)) c.read_signed.ensures c.in-Number.in-Number-own.keys2))
 
 pub returns : goal.returns
 returns c =
     let a = c.args in
-    rw (to_z-of_z (sfits_of c.known_told-1.given.0.1))
+    rw (to_z-of_z (sfits_of c.in-Number.known_told-1-own.given.0.1))
     (signed-found a.message.now a.start a.size _ (sym c.in-Number.is ∙ c.read_signed.ensures)).0
