@@ -15,7 +15,7 @@ returns-in_default c =
     let a = c.args in
     let e = c.size_at.ensures in
     c.refused.ensures
-    ∙ container-unsized a.message.now a.at a.marker a.kind (subst (λ (u : Unsigned). NoNumber (tag_of Un.the_type u)) e c.in_default.keys2)
+    ∙ container-unsized a.message.now a.at a.marker a.kind (subst (λ (u : Unsigned). NoNumber (tag_of Un.the_type u)) e c.in_default.in_default-own.keys2)
 
 pub overflow_add-result-2 : goal.overflow_add-result-2
 overflow_add-result-2 c =

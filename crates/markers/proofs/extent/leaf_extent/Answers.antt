@@ -17,7 +17,7 @@ returns-in_default c =
     let a = c.args in
     let e = c.size_at.ensures in
     c.refused.ensures
-    ∙ leaf-unsized a.message.now a.at a.marker a.kind (subst (λ (u : Unsigned). NoNumber (tag_of Un.the_type u)) e c.in_default.keys2)
+    ∙ leaf-unsized a.message.now a.at a.marker a.kind (subst (λ (u : Unsigned). NoNumber (tag_of Un.the_type u)) e c.in_default.in_default-own.keys2)
 
 pub overflow_add-start-2 : goal.overflow_add-start-2
 overflow_add-start-2 c = omega (arith, (let a = c.args in size-inside a.message.now a.at a.marker c.in-Number.n ((sym c.in-Number.is ∙ c.size_at.ensures)) c.requires.0 c.requires.1))

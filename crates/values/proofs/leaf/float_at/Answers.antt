@@ -13,7 +13,7 @@ pub returns-in_default : goal.returns-in_default
 returns-in_default c =
     let a = c.args in
     absurd (unsigned-there a.message.now a.start c.requires
-    (subst (λ (u : Unsigned). NoNumber (tag_of Un.the_type u)) c.read_unsigned.ensures c.in_default.keys2))
+    (subst (λ (u : Unsigned). NoNumber (tag_of Un.the_type u)) c.read_unsigned.ensures c.in_default.in_default-own.keys2))
 
 pub returns : goal.returns
 returns c =

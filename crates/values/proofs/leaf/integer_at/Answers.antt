@@ -14,7 +14,7 @@ pub returns-in_default : goal.returns-in_default
 returns-in_default c =
     let a = c.args in
     absurd (signed-there a.message.now a.start a.size c.requires.0 c.requires.1
-    (subst (λ (u : Signed). NoNumber (tag_of Sg.the_type u)) c.read_signed.ensures c.in-Number.in-Number-own.keys2))
+    (subst (λ (u : Signed). NoNumber (tag_of Sg.the_type u)) c.read_signed.ensures c.in_default.in_default-own.keys2))
 
 pub returns : goal.returns
 returns c =
