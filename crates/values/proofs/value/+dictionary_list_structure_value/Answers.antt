@@ -33,7 +33,7 @@ value-overflow_sub-depth t c = (container-inside c.args.message.now c.args.depth
 
 pub value-list-requires : goal.value-list-requires
 value-list-requires t c =
-    let r = c.requires.1 in
+    let r = c.requires in
     let i = container-inside c.args.message.now c.args.depth c.args.at _ _ _ c.in-Container.ensures in
     let past = i.0 in
     let inside = i.1 in
@@ -46,7 +46,7 @@ value-overflow_sub-depth-in-Dictionary t c = (container-inside c.args.message.no
 
 pub value-dictionary-requires : goal.value-dictionary-requires
 value-dictionary-requires t c =
-    let r = c.requires.1 in
+    let r = c.requires in
     let i = container-inside c.args.message.now c.args.depth c.args.at _ _ _ c.in-Container.ensures in
     let past = i.0 in
     let inside = i.1 in
@@ -59,7 +59,7 @@ value-overflow_sub-depth-in-Structure t c = (container-inside c.args.message.now
 
 pub value-structure-requires : goal.value-structure-requires
 value-structure-requires t c =
-    let r = c.requires.1 in
+    let r = c.requires in
     let i = container-inside c.args.message.now c.args.depth c.args.at _ _ _ c.in-Container.ensures in
     let past = i.0 in
     let inside = i.1 in
@@ -100,7 +100,7 @@ list-loop-i-init t c =
 
 pub list-value-item-requires : goal.list-value-item-requires
 list-value-item-requires t c =
-    let r = c.requires.1 in
+    let r = c.requires in
     let below = r.below in
     let l = c.loop-i.invariant in
     let enough = r.enough in
@@ -149,7 +149,7 @@ structure-loop-i-init t c =
 
 pub structure-value-field-requires : goal.structure-value-field-requires
 structure-value-field-requires t c =
-    let r = c.requires.1 in
+    let r = c.requires in
     let below = r.below in
     let l = c.loop-i.invariant in
     let enough = r.enough in
@@ -216,12 +216,12 @@ pub dictionary-loop-i-init : goal.dictionary-loop-i-init
 unfolding keys_of KeysInside
 dictionary-loop-i-init t c =
     let a = c.args in
-    let b = c.requires.1 in
+    let b = c.requires in
     (omega (arith, b.1), omega arith, refl, refl, tt, entries_none a.message.now (value_at a.message.now a.depth) a.count a.first, b.2)
 
 pub dictionary-read_key-key-requires : goal.dictionary-read_key-key-requires
 dictionary-read_key-key-requires t c =
-    let r = c.requires.1.0 in
+    let r = c.requires.0 in
     let l = c.loop-i.invariant in
     let enough = r.enough in
     (omega (arith, l.0, l.2, l.6), l.4)
@@ -230,85 +230,85 @@ pub dictionary-overflow_mul-next : goal.dictionary-overflow_mul-next
 dictionary-overflow_mul-next t c =
     let a = c.args in
     let l = c.loop-i in
-    let r = turn a.message.now l.scratch a.scratch.now a.first a.top l.at l.i c.in-String.start c.in-String.size c.requires.1.0 l.invariant.0 l.invariant.2 c.in-String.ensures in
+    let r = turn a.message.now l.scratch a.scratch.now a.first a.top l.at l.i c.in-String.start c.in-String.size c.requires.0 l.invariant.0 l.invariant.2 c.in-String.ensures in
     omega (arith, r.short, r.under, r.places)
 
 pub dictionary-overflow_add-next : goal.dictionary-overflow_add-next
 dictionary-overflow_add-next t c =
     let a = c.args in
     let l = c.loop-i in
-    let r = turn a.message.now l.scratch a.scratch.now a.first a.top l.at l.i c.in-String.start c.in-String.size c.requires.1.0 l.invariant.0 l.invariant.2 c.in-String.ensures in
+    let r = turn a.message.now l.scratch a.scratch.now a.first a.top l.at l.i c.in-String.start c.in-String.size c.requires.0 l.invariant.0 l.invariant.2 c.in-String.ensures in
     omega (arith, r.short, r.under, r.places)
 
 pub dictionary-overflow_cast-scratch : goal.dictionary-overflow_cast-scratch
 dictionary-overflow_cast-scratch t c =
     let a = c.args in
     let l = c.loop-i in
-    let r = turn a.message.now l.scratch a.scratch.now a.first a.top l.at l.i c.in-String.start c.in-String.size c.requires.1.0 l.invariant.0 l.invariant.2 c.in-String.ensures in
+    let r = turn a.message.now l.scratch a.scratch.now a.first a.top l.at l.i c.in-String.start c.in-String.size c.requires.0 l.invariant.0 l.invariant.2 c.in-String.ensures in
     omega (arith, r.short, r.under, r.places)
 
 pub dictionary-offset_bounds-scratch-next : goal.dictionary-offset_bounds-scratch-next
 dictionary-offset_bounds-scratch-next t c =
     let a = c.args in
     let l = c.loop-i in
-    let r = turn a.message.now l.scratch a.scratch.now a.first a.top l.at l.i c.in-String.start c.in-String.size c.requires.1.0 l.invariant.0 l.invariant.2 c.in-String.ensures in
+    let r = turn a.message.now l.scratch a.scratch.now a.first a.top l.at l.i c.in-String.start c.in-String.size c.requires.0 l.invariant.0 l.invariant.2 c.in-String.ensures in
     omega (arith, r.short, r.under, r.places)
 
 pub dictionary-bounds-scratch-next : goal.dictionary-bounds-scratch-next
 dictionary-bounds-scratch-next t c =
     let a = c.args in
     let l = c.loop-i in
-    let r = turn a.message.now l.scratch a.scratch.now a.first a.top l.at l.i c.in-String.start c.in-String.size c.requires.1.0 l.invariant.0 l.invariant.2 c.in-String.ensures in
+    let r = turn a.message.now l.scratch a.scratch.now a.first a.top l.at l.i c.in-String.start c.in-String.size c.requires.0 l.invariant.0 l.invariant.2 c.in-String.ensures in
     omega (arith, r.short, r.under, r.places)
 
 pub dictionary-overflow_cast-scratch-in-String : goal.dictionary-overflow_cast-scratch-in-String
 dictionary-overflow_cast-scratch-in-String t c =
     let a = c.args in
     let l = c.loop-i in
-    let r = turn a.message.now l.scratch a.scratch.now a.first a.top l.at l.i c.in-String.start c.in-String.size c.requires.1.0 l.invariant.0 l.invariant.2 c.in-String.ensures in
+    let r = turn a.message.now l.scratch a.scratch.now a.first a.top l.at l.i c.in-String.start c.in-String.size c.requires.0 l.invariant.0 l.invariant.2 c.in-String.ensures in
     omega (arith, r.short, r.under, r.places)
 
 pub dictionary-overflow_add-scratch : goal.dictionary-overflow_add-scratch
 dictionary-overflow_add-scratch t c =
     let a = c.args in
     let l = c.loop-i in
-    let r = turn a.message.now l.scratch a.scratch.now a.first a.top l.at l.i c.in-String.start c.in-String.size c.requires.1.0 l.invariant.0 l.invariant.2 c.in-String.ensures in
+    let r = turn a.message.now l.scratch a.scratch.now a.first a.top l.at l.i c.in-String.start c.in-String.size c.requires.0 l.invariant.0 l.invariant.2 c.in-String.ensures in
     omega (arith, r.short, r.under, r.places)
 
 pub dictionary-offset_bounds-scratch-next-in-String : goal.dictionary-offset_bounds-scratch-next-in-String
 dictionary-offset_bounds-scratch-next-in-String t c =
     let a = c.args in
     let l = c.loop-i in
-    let r = turn a.message.now l.scratch a.scratch.now a.first a.top l.at l.i c.in-String.start c.in-String.size c.requires.1.0 l.invariant.0 l.invariant.2 c.in-String.ensures in
+    let r = turn a.message.now l.scratch a.scratch.now a.first a.top l.at l.i c.in-String.start c.in-String.size c.requires.0 l.invariant.0 l.invariant.2 c.in-String.ensures in
     omega (arith, r.short, r.under, r.places)
 
 pub dictionary-overflow_add-start : goal.dictionary-overflow_add-start
 dictionary-overflow_add-start t c =
     let a = c.args in
     let l = c.loop-i in
-    let r = turn a.message.now l.scratch a.scratch.now a.first a.top l.at l.i c.in-String.start c.in-String.size c.requires.1.0 l.invariant.0 l.invariant.2 c.in-String.ensures in
+    let r = turn a.message.now l.scratch a.scratch.now a.first a.top l.at l.i c.in-String.start c.in-String.size c.requires.0 l.invariant.0 l.invariant.2 c.in-String.ensures in
     omega (arith, r.short, r.under, r.places)
 
 pub dictionary-overflow_add-next-in-String : goal.dictionary-overflow_add-next-in-String
 dictionary-overflow_add-next-in-String t c =
     let a = c.args in
     let l = c.loop-i in
-    let r = turn a.message.now l.scratch a.scratch.now a.first a.top l.at l.i c.in-String.start c.in-String.size c.requires.1.0 l.invariant.0 l.invariant.2 c.in-String.ensures in
+    let r = turn a.message.now l.scratch a.scratch.now a.first a.top l.at l.i c.in-String.start c.in-String.size c.requires.0 l.invariant.0 l.invariant.2 c.in-String.ensures in
     omega (arith, r.short, r.under, r.places)
 
 pub dictionary-bounds-scratch-next-in-String : goal.dictionary-bounds-scratch-next-in-String
 dictionary-bounds-scratch-next-in-String t c =
     let a = c.args in
     let l = c.loop-i in
-    let r = turn a.message.now l.scratch a.scratch.now a.first a.top l.at l.i c.in-String.start c.in-String.size c.requires.1.0 l.invariant.0 l.invariant.2 c.in-String.ensures in
+    let r = turn a.message.now l.scratch a.scratch.now a.first a.top l.at l.i c.in-String.start c.in-String.size c.requires.0 l.invariant.0 l.invariant.2 c.in-String.ensures in
     omega (arith, r.places, length-set l.scratch (a.top + 2 * l.i) c.in-String.start)
 
 pub dictionary-value-item-requires : goal.dictionary-value-item-requires
 dictionary-value-item-requires t c =
     let a = c.args in
     let l = c.loop-i in
-    let r = turn a.message.now l.scratch a.scratch.now a.first a.top l.at l.i c.in-String.start c.in-String.size c.requires.1.0 l.invariant.0 l.invariant.2 c.in-String.ensures in
-    let room = c.requires.1.0 in
+    let r = turn a.message.now l.scratch a.scratch.now a.first a.top l.at l.i c.in-String.start c.in-String.size c.requires.0 l.invariant.0 l.invariant.2 c.in-String.ensures in
+    let room = c.requires.0 in
     let enough = room.enough in (
       omega (arith, r.key.past, l.invariant.1),
       record { short = room.short; enough = omega (arith, length-keep l.scratch (a.top + 2 * l.i) c.in-String.start c.in-String.size, l.invariant.2); below = r.under },
@@ -319,7 +319,7 @@ dictionary-returns-in-Refused-item t c =
     let a = c.args in
     let l = c.loop-i in
     let f = value_at a.message.now a.depth in
-    let r = turn a.message.now l.scratch a.scratch.now a.first a.top l.at l.i c.in-String.start c.in-String.size c.requires.1.0 l.invariant.0 l.invariant.2 c.in-String.ensures in
+    let r = turn a.message.now l.scratch a.scratch.now a.first a.top l.at l.i c.in-String.start c.in-String.size c.requires.0 l.invariant.0 l.invariant.2 c.in-String.ensures in
     let e = step-refused (f _) _ _ (sym c.in-Refused-item.is ∙ c.value-item.ensures.0) in (
       c.refused.ensures ∙ sym (entries-halt a.message.now f a.count a.first l.i l.at _ l.invariant.5 c.loop-i-test.true _ _ r.key.parse _ _ e),
       frame c.value-item.new.scratch l.scratch a.scratch.now a.top l.i _ _ c.value-item.ensures.1 l.invariant.3,
@@ -340,7 +340,7 @@ dictionary-loop-i-preserved t c =
     let a = c.args in
     let l = c.loop-i in
     let f = value_at a.message.now a.depth in
-    let r = turn a.message.now l.scratch a.scratch.now a.first a.top l.at l.i c.in-String.start c.in-String.size c.requires.1.0 l.invariant.0 l.invariant.2 c.in-String.ensures in
+    let r = turn a.message.now l.scratch a.scratch.now a.first a.top l.at l.i c.in-String.start c.in-String.size c.requires.0 l.invariant.0 l.invariant.2 c.in-String.ensures in
     let e = step-to (f _) _ (sym c.in-To.is ∙ c.value-item.ensures.0) in
     let b = value-bounds a.message.now a.depth _ e.0 _ e.1 in (
       omega (arith, b.0, r.under),
