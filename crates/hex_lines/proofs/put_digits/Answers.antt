@@ -1,10 +1,9 @@
 -- `hex_lines::put_digits` meets its contract. The loop's invariant: the digits of the i bytes passed stand in front. Assumes nothing.
-use mathlib.Core.Path.{◌≡◌, refl}
-use Prim.Native.Nat.{◌-◌, ◌≤◌}
+use mathlib.Core.Path.{refl}
 use native.Mathlib.Omega.{arith}
-use lib.ListN.{length, length-set}
+use lib.ListN.{length-set}
 use Rattle.slices.proofs.Pieces.{put-none}
-use Rattle.hex_lines.proofs.Lines.{Digits-put, digits-put-next, digits-put-done}
+use Rattle.hex_lines.proofs.Lines.{digits-put-next, digits-put-done}
 use Rattle.hex_lines.proofs.put_digits.Goals as goal
 
 pub loop-i-init : goal.loop-i-init

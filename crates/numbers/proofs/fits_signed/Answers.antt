@@ -1,7 +1,6 @@
 -- `numbers::fits_signed` meets its contract. Assumes nothing.
 use mathlib.Core.Path.{sym, ap}
 use mathlib.Core.Bool.{Bool, ◌&&◌}
-use borrow.Author.Rules.{rules}
 use mir.Facts.{to_z-of_z}
 use Rattle.numbers.specs.TwosComplement.{fits_in}
 use Rattle.numbers.proofs.TwosComplement.{fits-half}

@@ -1,11 +1,10 @@
 -- `numbers::store` meets its contract. The loop's invariant: what is left to store, stored now, gives what the whole store gives.
 -- Assumes nothing.
 use mathlib.Core.Path.{◌≡◌, refl, sym, ap, ◌∙◌}
-use Prim.Native.Nat.{ℕ, suc, ◌+◌, ◌-◌, ◌≤◌}
+use Prim.Native.Nat.{ℕ, suc, ◌-◌}
 use native.Mathlib.Omega.{arith}
-use lib.ListN.{length, length-set}
+use lib.ListN.{length-set}
 use lib.Seq.{sets}
-use borrow.Author.Rules.{rules}
 use Rattle.slices.proofs.Parts.{reaches-yes, reaches-le}
 use Rattle.numbers.specs.BigEndian.{bytes_of}
 use Rattle.numbers.proofs.BigEndian.{store-next}

@@ -1,12 +1,9 @@
 -- `numbers::write_signed` meets its contract. Assumes nothing.
-use mathlib.Core.Path.{◌≡◌, refl, ap, ◌∙◌}
-use mathlib.Core.Bool.{true}
+use mathlib.Core.Path.{refl, ap, ◌∙◌}
 use Prim.Native.Nat.{ℕ}
-use borrow.Author.Rules.{rules}
 use mir.Facts.{to_z-of_z}
 use Rattle.numbers.specs.BigEndian.{bytes_of}
-use Rattle.numbers.specs.TwosComplement.{fits_in}
-use Rattle.numbers.specs.Access.{is_width, stored}
+use Rattle.numbers.specs.Access.{stored}
 use Rattle.numbers.proofs.Access.{failed, passed, width-most, storing-invalid, storing-range, storing-held}
 use Rattle.numbers.proofs.write_signed.Goals as goal
 

@@ -1,9 +1,6 @@
 -- `numbers::write_unsigned` meets its contract. Assumes nothing.
-use mathlib.Core.Path.{◌≡◌, refl, ◌∙◌}
-use mathlib.Core.Bool.{true}
+use mathlib.Core.Path.{refl, ◌∙◌}
 use native.Mathlib.Omega.{arith}
-use borrow.Author.Rules.{rules}
-use Rattle.numbers.specs.Access.{is_width}
 use Rattle.numbers.proofs.Access.{failed, passed, width-least, width-most, storing-invalid, storing-range, storing-held, holds-yes, holds-no}
 use Rattle.numbers.proofs.write_unsigned.Goals as goal
 

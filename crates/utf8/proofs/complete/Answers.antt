@@ -1,10 +1,8 @@
 -- `utf8::complete` meets its contract. The loop's invariant: i bytes of the sequence are read. Assumes nothing.
 use mathlib.Core.Path.{sym, ◌∙◌}
-use Prim.Native.Nat.{◌-◌}
 use native.Mathlib.Omega.{arith}
-use borrow.Author.Rules.{rules}
 use borrow.Author.Tests.{not-true, not-false}
-use Rattle.utf8.proofs.Sequences.{Reading, reading, cut_off, room, no-continuation, continued, overlong, no-scalar, well-formed}
+use Rattle.utf8.proofs.Sequences.{reading, cut_off, room, no-continuation, continued, overlong, no-scalar, well-formed}
 use Rattle.utf8.proofs.complete.Goals as goal
 
 pub returns-then-bytes-at : goal.returns-then-bytes-at

@@ -1,17 +1,10 @@
 -- `reader::copy_message` meets its contract. The invariants: what has come of the message stands in front of what the buffer held.
 -- The inner loop's speaks of any such buffer, since it sees only the one that it started with. Assumes nothing.
-use mathlib.Core.Path.{◌≡◌, refl, sym, ◌∙◌}
-use mathlib.Core.List.{List}
+use mathlib.Core.Path.{refl, sym, ◌∙◌}
 use Prim.Native.Nat.{ℕ, ◌+◌, ◌-◌, ◌≤◌, ◌<◌}
 use native.Mathlib.Nat.{le_refl}
 use native.Mathlib.Omega.{arith}
-use borrow.Author.Rules.{rules}
-use lib.ListN.{length}
-use Rattle.slices.specs.Parts.{part}
-use Rattle.numbers.specs.BigEndian.{big_endian}
-use Rattle.framing.specs.Reading.{frame_of}
-use Rattle.framing.specs.Private.Copying.{IsMessage}
-use Rattle.framing.proofs.Copying.{Copied, copied_none, message-header, message-end, message-small, message-inside, message-next}
+use Rattle.framing.proofs.Copying.{copied_none, message-header, message-end, message-small, message-inside, message-next}
 use Rattle.framing.proofs.reader.copy_message.Goals as goal
 
 -- what is left of the input falls
@@ -78,7 +71,7 @@ loop-keep_alive-preserved c =
     let l = c.loop-keep_alive.invariant in
     let k = c.loop-size.invariant in
     let w = k.5 c.args.buffer.now l.1 l.0 c.requires in
-    (c.copy.auto.1.1.1.0 ∙ k.0 ∙ l.0, rw c.copy.ensures.filled (message-next w c.requires k.2 k.3 (k.0 ∙ l.0)))
+    (c.copy.auto.target ∙ k.0 ∙ l.0, rw c.copy.ensures.filled (message-next w c.requires k.2 k.3 (k.0 ∙ l.0)))
 
 pub loop-size-smaller : goal.loop-size-smaller
 loop-size-smaller c =
@@ -92,7 +85,7 @@ loop-size-preserved c =
     let l = c.loop-keep_alive.invariant in
     let k = c.loop-size.invariant in
     let w = k.5 c.args.buffer.now l.1 l.0 c.requires in (
-      c.copy.auto.1.1.1.0 ∙ k.0,
+      c.copy.auto.target ∙ k.0,
       omega (arith, k.1),
       sym c.if-size_at-size.false ∙ c.size_at.ensures.0,
       k.3,

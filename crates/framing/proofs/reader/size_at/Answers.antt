@@ -2,7 +2,6 @@
 use mathlib.Core.Path.{sym}
 use native.Mathlib.Omega.{arith}
 use Prim.Native.Nat.{◌+◌}
-use borrow.Author.Rules.{rules}
 use Rattle.numbers.proofs.BigEndian.{big-two}
 use Rattle.framing.proofs.reader.size_at.Goals as goal
 

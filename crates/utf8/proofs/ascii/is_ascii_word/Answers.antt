@@ -1,5 +1,4 @@
 -- `utf8::ascii::is_ascii_word` meets its contract, by the law of the mask. Assumes nothing.
-use borrow.Author.Rules.{rules}
 use Rattle.utf8.proofs.TopBits.{top_bits, masked-part}
 use Rattle.utf8.proofs.ascii.is_ascii_word.Goals as goal
 

@@ -1,12 +1,10 @@
 -- `utf8::ascii::past_blocks` meets its contract. The loop's invariant: the whole blocks from `at` on end where those from `start` on do.
 -- Assumes nothing.
-use mathlib.Core.Path.{◌≡◌, refl, sym, ◌∙◌}
-use Prim.Native.Nat.{◌+◌, ◌-◌, ◌*◌, ◌/◌, ◌≤◌}
+use mathlib.Core.Path.{refl, sym, ◌∙◌}
+use Prim.Native.Nat.{◌+◌, ◌≤◌}
 use native.Mathlib.Omega.{arith}
-use borrow.Author.Rules.{rules}
 use borrow.Author.Tests.{not-true, not-false}
 use lib.ListN.{length, drop, length-drop}
-use Rattle.utf8.specs.Private.Ascii.{ascii_run}
 use Rattle.utf8.proofs.Runs.{run-le, not-all-run, tested, past}
 use Rattle.utf8.proofs.ascii.past_blocks.Goals as goal
 

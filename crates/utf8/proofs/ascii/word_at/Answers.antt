@@ -1,9 +1,7 @@
 -- `utf8::ascii::word_at` meets its contract. The loop's invariant: i bytes are put together. Assumes nothing.
 use mathlib.Core.Path.{◌≡◌, refl}
-use Prim.Native.Nat.{◌+◌, ◌-◌, ◌≤◌}
+use Prim.Native.Nat.{◌+◌}
 use native.Mathlib.Omega.{arith}
-use borrow.Author.Rules.{rules}
-use Rattle.slices.specs.Parts.{part}
 use Rattle.utf8.specs.Private.Ascii.{little_endian}
 use Rattle.utf8.proofs.TopBits.{next-byte}
 use Rattle.utf8.proofs.ascii.word_at.Goals as goal
