@@ -11,7 +11,12 @@ returns-then-length-block c =
     let at = c.least-at.ensures in
     let k = c.least-kept.ensures in
     let e = line-ends a.block.now (omega (arith, n, c.if-length-block.true)) in
-    (omega (arith, n, e.0), (e.1, (line-size a.held.now a.begun a.block.now at n k, line-held a.held.now a.begun a.block.now at n k c.copy.ensures.filled)))
+    record {
+      taken = omega (arith, n, e.0);
+      ended = e.1;
+      size = line-size a.held.now a.begun a.block.now at n k;
+      filled = line-held a.held.now a.begun a.block.now at n k c.copy.ensures.filled;
+    }
 
 pub returns : goal.returns
 returns c =
@@ -20,4 +25,9 @@ returns c =
     let at = c.least-at.ensures in
     let k = c.least-kept.ensures in
     let e = line-goes-on a.block.now (omega (arith, n, c.if-length-block.false)) in
-    (omega (arith, n, e.0), (e.1, (line-size a.held.now a.begun a.block.now at n k, line-held a.held.now a.begun a.block.now at n k c.copy.ensures.filled)))
+    record {
+      taken = omega (arith, n, e.0);
+      ended = e.1;
+      size = line-size a.held.now a.begun a.block.now at n k;
+      filled = line-held a.held.now a.begun a.block.now at n k c.copy.ensures.filled;
+    }

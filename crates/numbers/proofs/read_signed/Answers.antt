@@ -14,13 +14,13 @@ signed_of-requires c =
     let f = unsigned-found a.bytes.now a.at a.width _ e in (
       width-least _ f.1.width,
       width-most _ f.1.width,
-      rw f.0 (lies-lt a.bytes.now a.at a.width (λ i. (c.shared_slice_known-1.given i).fits) f.1),
+      rw f.0 (lies-lt a.bytes.now a.at a.width (λ i. (c.type_inv.bytes i).fits) f.1),
     )
 
 pub returns-in-Number : goal.returns-in-Number
 returns-in-Number c =
     let a = c.args in
-    rw (to_z-of_z (record { sfits = c.signed_of.type-inv }))
+    rw (to_z-of_z (record { sfits = c.signed_of.type_inv }))
     (ap Number c.signed_of.ensures
     ∙ ap (signed_of a.width) (sym c.in-Number.is ∙ c.read_unsigned.ensures))
 

@@ -1,53 +1,68 @@
 -- `utf8::is_utf8` meets its contract. The loop's invariant: up to `at` there are whole sequences. Assumes nothing.
-use mathlib.Core.Path.{◌∙◌}
-use mathlib.Core.Logic.{⊎_elim}
-use Prim.Native.Nat.{◌-◌, ◌≤◌}
+use mathlib.Core.Path.{◌≡◌, ◌∙◌}
+use mathlib.Core.List.{List}
+use Prim.Native.Nat.{ℕ, ◌+◌, ◌≤◌, ◌<◌}
 use native.Mathlib.Omega.{arith}
-use borrow.Author.Rules.{rules}
-use lib.ListN.{length}
+use lib.ListN.{length, get_or, drop}
+use Rattle.utf8.specs.Private.Ascii.{ascii_run}
 use Rattle.utf8.proofs.Utf8.{Checked, Leads, checked, all-checked, at-fault, past-run, leads-past-run, past-sequence}
 use Rattle.utf8.proofs.is_utf8.Goals as goal
+use Rattle.utf8.proofs.is_utf8.Goals.{then-bytes-at-lt128+else-bytes-at, else-bytes-at-lt128}
 
 -- past the ASCII bytes, if there are some, a sequence of several has to begin
-leads : (c : tie.Joined1 invariant-loop decreases-loop)
-    → Leads c.before.before.before.before.before.args.bytes.now c.if1.at × (c.before.before.before.loop.at ≤ c.if1.at)
-leads c =
-    let l = c.before.before.before.loop in
-    ⊎_elim
-    (λ way.
-    let e = way.3 ∙ way.1.ensures in
-    (rw e (leads-past-run l.invariant (omega (arith, way.1.ensures, way.2.left))), omega (arith, e)))
-    (λ way. (rw way.1 (record { before = l.invariant; inside = omega arith; high = way.0.left }), omega (arith, way.1)))
-    c.if1.branch
+past : {s : List ℕ} {at next : ℕ} → Checked s at → next ≡ at + ascii_run (drop at s) → next < length s → Leads s next × (at ≤ next)
+past r e h = (rw e (leads-past-run r (omega (arith, e, h))), omega (arith, e))
+
+here : {s : List ℕ} {at next : ℕ} → Checked s at → at < length s → 0x80 ≤ get_or s at 0 → next ≡ at → Leads s next × (at ≤ next)
+here r h high e = (rw e (record { before = r; inside = h; high = high }), omega (arith, e))
 
 pub loop-at-init : goal.loop-at-init
 loop-at-init c = checked c.args.bytes.now
 
 pub returns-then-bytes-at : goal.returns-then-bytes-at
 returns-then-bytes-at c =
-    let l = c.loop-at in
-    all-checked (past-run l.invariant) (omega (arith, c.ascii_end-at.ensures, c.if-bytes-at.true))
+    all-checked (past-run c.loop-at.invariant) (omega (arith, c.ascii_end-at.ensures, c.if-bytes-at.true))
 
 pub sequence_at-size-requires : goal.sequence_at-size-requires
-sequence_at-size-requires c = ((leads c).0.inside, (leads c).0.high)
+sequence_at-size-requires c =
+    let led : Leads c.args.bytes.now c.if-bytes-at-lt128.at × (c.loop-at.at ≤ c.if-bytes-at-lt128.at) =
+        elim c.if-bytes-at-lt128.branch [
+          then-bytes-at-lt128+else-bytes-at w ↦ past c.loop-at.invariant (w.at-is ∙ w.ascii_end-at.ensures) (omega (arith, w.at-is))
+          | else-bytes-at-lt128 w ↦ here c.loop-at.invariant c.loop-at-test.true w.if-bytes-at-lt128.false w.at-is
+        ] in
+    (led.0.inside, led.0.high)
 
 pub returns-then-size-eq0 : goal.returns-then-size-eq0
 returns-then-size-eq0 c =
+    let led : Leads c.args.bytes.now c.if-bytes-at-lt128.at × (c.loop-at.at ≤ c.if-bytes-at-lt128.at) =
+        elim c.if-bytes-at-lt128.branch [
+          then-bytes-at-lt128+else-bytes-at w ↦ past c.loop-at.invariant (w.at-is ∙ w.ascii_end-at.ensures) (omega (arith, w.at-is))
+          | else-bytes-at-lt128 w ↦ here c.loop-at.invariant c.loop-at-test.true w.if-bytes-at-lt128.false w.at-is
+        ] in
     let n = c.sequence_at-size in
-    let l = (leads «Joined1»).0 in
-    at-fault l.before l.inside n.result n.ensures c.if-size-eq0.true
+    at-fault led.0.before led.0.inside n.result n.ensures c.if-size-eq0.true
 
 pub loop-at-preserved : goal.loop-at-preserved
 loop-at-preserved c =
+    let led : Leads c.args.bytes.now c.if-bytes-at-lt128.at × (c.loop-at.at ≤ c.if-bytes-at-lt128.at) =
+        elim c.if-bytes-at-lt128.branch [
+          then-bytes-at-lt128+else-bytes-at w ↦ past c.loop-at.invariant (w.at-is ∙ w.ascii_end-at.ensures) (omega (arith, w.at-is))
+          | else-bytes-at-lt128 w ↦ here c.loop-at.invariant c.loop-at-test.true w.if-bytes-at-lt128.false w.at-is
+        ] in
     let n = c.sequence_at-size in
-    let l = (leads «Joined1»).0 in
-    past-sequence l.before l.inside n.result n.ensures c.if-size-eq0.false
+    past-sequence led.0.before led.0.inside n.result n.ensures c.if-size-eq0.false
 
 pub overflow_add-at : goal.overflow_add-at
-overflow_add-at c = omega (arith, (loop-again c).within)
+overflow_add-at c = omega (arith, (loop-at-preserved c).within)
 
 pub loop-at-smaller : goal.loop-at-smaller
-loop-at-smaller c = omega (arith, (loop-again c).within, (leads «Joined1»).1)
+loop-at-smaller c =
+    let led : Leads c.args.bytes.now c.if-bytes-at-lt128.at × (c.loop-at.at ≤ c.if-bytes-at-lt128.at) =
+        elim c.if-bytes-at-lt128.branch [
+          then-bytes-at-lt128+else-bytes-at w ↦ past c.loop-at.invariant (w.at-is ∙ w.ascii_end-at.ensures) (omega (arith, w.at-is))
+          | else-bytes-at-lt128 w ↦ here c.loop-at.invariant c.loop-at-test.true w.if-bytes-at-lt128.false w.at-is
+        ] in
+    omega (arith, (loop-at-preserved c).within, led.1)
 
 pub returns : goal.returns
 returns c = all-checked c.loop-at.invariant (omega arith)

@@ -78,7 +78,7 @@ loop-keep_alive-preserved c =
     let l = c.loop-keep_alive.invariant in
     let k = c.loop-size.invariant in
     let w = k.5 c.args.buffer.now l.1 l.0 c.requires in
-    (c.copy.auto.1.1.1.0 ∙ k.0 ∙ l.0, rw c.copy.ensures.filled (message-next w c.requires k.2 k.3 (k.0 ∙ l.0)))
+    (c.copy.auto.target ∙ k.0 ∙ l.0, rw c.copy.ensures.filled (message-next w c.requires k.2 k.3 (k.0 ∙ l.0)))
 
 pub loop-size-smaller : goal.loop-size-smaller
 loop-size-smaller c =
@@ -92,7 +92,7 @@ loop-size-preserved c =
     let l = c.loop-keep_alive.invariant in
     let k = c.loop-size.invariant in
     let w = k.5 c.args.buffer.now l.1 l.0 c.requires in (
-      c.copy.auto.1.1.1.0 ∙ k.0,
+      c.copy.auto.target ∙ k.0,
       omega (arith, k.1),
       sym c.if-size_at-size.false ∙ c.size_at.ensures.0,
       k.3,

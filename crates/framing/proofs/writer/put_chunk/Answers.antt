@@ -10,7 +10,7 @@ pub bounds-out-to-2 : goal.bounds-out-to-2
 bounds-out-to-2 c = simp length-set (omega arith)
 
 pub shape_of-out : goal.shape_of-out
-shape_of-out c = c.copy.auto.1.1.1.0 ∙ simp length-set
+shape_of-out c = c.copy.auto.target ∙ simp length-set
 
 pub returns : goal.returns
 returns c =

@@ -33,7 +33,7 @@ loop-start-smaller c =
 pub loop-start-preserved : goal.loop-start-preserved
 loop-start-preserved c =
     let l = c.loop-start.invariant in (
-      c.put_chunk.auto.1.1.1.0 ∙ l.0,
+      c.put_chunk.auto.out ∙ l.0,
       rw c.put_chunk.ensures (whole-next l.1 c.requires.0.0 c.loop-start-test.true),
     )
 
@@ -43,7 +43,7 @@ put_end-requires c =
     omega (arith, end_fits l.1 c.loop-start-test.false c.if-rest-eq0.true, l.0)
 
 pub shape_of-out-then-rest-eq0 : goal.shape_of-out-then-rest-eq0
-shape_of-out-then-rest-eq0 c = c.put_end.auto.0 ∙ c.loop-start.invariant.0
+shape_of-out-then-rest-eq0 c = c.put_end.auto.out ∙ c.loop-start.invariant.0
 
 pub returns-then-rest-eq0 : goal.returns-then-rest-eq0
 returns-then-rest-eq0 c =
@@ -71,10 +71,10 @@ overflow_add-to-2 c =
 pub put_end-requires-2 : goal.put_end-requires-2
 put_end-requires-2 c =
     let l = c.loop-start.invariant in
-    omega (arith, rest-fits l.1 _ c.loop-start-test.false refl c.if-rest-eq0.false, c.put_chunk-2.auto.1.1.1.0, l.0)
+    omega (arith, rest-fits l.1 _ c.loop-start-test.false refl c.if-rest-eq0.false, c.put_chunk-2.auto.out, l.0)
 
 pub shape_of-out : goal.shape_of-out
-shape_of-out c = c.put_end-2.auto.0 ∙ c.put_chunk-2.auto.1.1.1.0 ∙ c.loop-start.invariant.0
+shape_of-out c = c.put_end-2.auto.out ∙ c.put_chunk-2.auto.out ∙ c.loop-start.invariant.0
 
 pub returns : goal.returns
 returns c =
