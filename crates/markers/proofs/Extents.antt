@@ -1,6 +1,5 @@
 -- Laws of extents: what the code's tests make of them, and what holds of every one. Assumes nothing.
 use mathlib.Core.Path.{◌≡◌, refl, sym, ap, ◌∙◌, subst}
-use mathlib.Core.Logic.{inl, inr}
 use mathlib.Core.Bool.{Bool, true, false, not, cond, false≢true}
 use mathlib.Core.List.{List, [], ◌∷◌}
 use Prim.Native.Nat.{ℕ, zero, suc, ◌+◌, ◌-◌, ◌^◌, ◌≤◌, ◌<◌}
@@ -8,14 +7,11 @@ use native.Mathlib.Omega.{arith}
 use lib.Dec.{ltb, eqb}
 use lib.ListN.{length, get_or}
 use borrow.Author.Tests.{lt-ltb, le-ltb, ltb-true, eq-eqb, ne_eqb, eqb-true, eqb-false}
-use denote.Enum.Declared.{tag_of}
-use types.Run.{OneOf}
 use Rattle.slices.specs.Parts.{reaches}
 use Rattle.slices.proofs.Parts.{reaches-yes, reaches-no, reaches-le}
 use Rattle.numbers.specs.Access.{unsigned_at}
 use Rattle.numbers.specs.declared.Unsigned.{Unsigned}
 use Rattle.numbers.specs.declared.Unsigned.TheVariants as U
-use Rattle.numbers.specs.contracts.Unsigned as Un
 use Rattle.numbers.specs.BigEndian.{Bytes}
 use Rattle.numbers.proofs.Access.{unsigned-found, lies-lt}
 use Rattle.numbers.proofs.BigEndian.{pow256-mono}
@@ -53,29 +49,19 @@ module _ (s : List ℕ) (at : ℕ) (m : Marker) where
   size-inside n e = found-size n (eqb m.width 0) e refl
 
 -- an answer of a read that is not its first case, a number
-abbrev pub NoNumber : ℕ → Type 0
-NoNumber tag = OneOf (1 ∷ 2 ∷ []) tag
-
-pub not_first : NoNumber 0 → ⊥
-not_first (inl e) = never e
-  where
-    never : ◌≡◌ {A = ℕ} 0 1 → ⊥
-    never e = omega arith
-not_first (inr e) = never e
-  where
-    never : ◌≡◌ {A = ℕ} 0 2 → ⊥
-    never e = omega arith
+abbrev pub NoNumber : Unsigned → Type 0
+NoNumber u = (x : ℕ) → u ≡ U.Number x → ⊥
 
 -- a size that is not a number is missing
-pub no_size : (at : ℕ) (u : Unsigned) (f : ℕ → Extent) → NoNumber (tag_of Un.the_type u) → E.Refused ValueTruncated at ≡ on_size at u f
-no_size at (U.Number n) f e = absurd (not_first e)
+pub no_size : (at : ℕ) (u : Unsigned) (f : ℕ → Extent) → NoNumber u → E.Refused ValueTruncated at ≡ on_size at u f
+no_size at (U.Number n) f e = absurd (e n refl)
 no_size at U.OutOfBounds f e = refl
 no_size at U.InvalidWidth f e = refl
 
 -- ---- what the code's tests make of a leaf and of a container
 module _ (s : List ℕ) (at : ℕ) (m : Marker) where
   module _ (k : Leaf) where
-    pub leaf-unsized : NoNumber (tag_of Un.the_type (size_at s at m)) → E.Refused ValueTruncated at ≡ leaf_extent s at k m
+    pub leaf-unsized : NoNumber (size_at s at m) → E.Refused ValueTruncated at ≡ leaf_extent s at k m
     unfolding leaf_extent
     leaf-unsized e = no_size at (size_at s at m) _ e
 
@@ -93,7 +79,7 @@ module _ (s : List ℕ) (at : ℕ) (m : Marker) where
       leaf-there h = rw (by_size, reaches-yes s (at + m.skip + m.width) n h)
 
   module _ (k : Container) where
-    pub container-unsized : NoNumber (tag_of Un.the_type (size_at s at m)) → E.Refused ValueTruncated at ≡ container_extent s at k m
+    pub container-unsized : NoNumber (size_at s at m) → E.Refused ValueTruncated at ≡ container_extent s at k m
     unfolding container_extent
     container-unsized e = no_size at (size_at s at m) _ e
 

@@ -6,14 +6,15 @@ use mathlib.Core.List.{List}
 use Prim.Native.Nat.{ℕ, zero, suc, ◌+◌, ◌-◌, ◌≤◌, ◌<◌}
 use native.Mathlib.Nat.{not-suc-le-zero, le_of_suc-le-suc, eq-or-lt_of_le}
 use native.Mathlib.Omega.{arith}
-use lib.ListN.{length}
+use lib.ListN.{length, get_or}
 use Rattle.slices.specs.Parts.{part}
-use Rattle.slices.proofs.Parts.{length_part}
+use Rattle.slices.proofs.Parts.{length_part, get_d_part}
 use Rattle.utf8.specs.Utf8.{utf8}
 use Rattle.refusal.specs.declared.Refusal.{Refusal}
 use Rattle.refusal.specs.declared.Refusal.TheVariants.{InvalidUtf8, DuplicateKey, KeyNotString}
 use Rattle.values.specs.Decode.{Parse, parsed, failed, KeyText, repeats, key_of, key_at}
 use Rattle.slices.specs.Equality.{same}
+use Rattle.slices.proofs.Equality.{same-equal}
 use Rattle.markers.specs.Extents.{key_extent_at}
 use Rattle.values.specs.Private.Keys.{key_of_parse, start_of, size_of, keys_of, KeysInside}
 use Rattle.markers.specs.declared.kind.Leaf.{Leaf}
@@ -21,6 +22,17 @@ use Rattle.markers.specs.declared.extent.Extent.{Extent}
 use Rattle.markers.specs.declared.extent.Extent.TheVariants as E
 use Rattle.values.specs.declared.keys.Key.TheVariants as Y
 use Rattle.markers.proofs.Extents.{Inside, key-inside}
+
+-- parts of one size whose last elements differ
+pub last-differs : (s : List ℕ) (a : ℕ) (t : List ℕ) (b n : ℕ) → 0 < n → (get_or s (a + (n - 1)) 0 ≡ get_or t (b + (n - 1)) 0 → ⊥) → same (part s a n) (part t b n) ≡ false
+last-differs s a t b n h d = by (same (part s a n) (part t b n)) refl
+  where
+    by : (v : Bool) → same (part s a n) (part t b n) ≡ v → v ≡ false
+    by true e =
+        absurd (d (sym (get_d_part s a n (n - 1) (omega arith))
+        ∙ ap (λ (l : List ℕ). get_or l (n - 1) 0) (same-equal (part s a n) (part t b n) e)
+        ∙ get_d_part t b n (n - 1) (omega arith)))
+    by false e = refl
 
 -- ---- the search, from the latest key back
 module _ (s scratch : List ℕ) (base : ℕ) (key : List ℕ) where

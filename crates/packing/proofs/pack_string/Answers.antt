@@ -13,14 +13,6 @@ use Rattle.packing.specs.Packing.{pack_string, string_form}
 use Rattle.packing.proofs.Packing.{header-most, length-string, string-room, string-put, string-long, string-invalid, string-formed, refuses, no_room, packs}
 use Rattle.packing.proofs.pack_string.Goals as goal
 
--- past the third there is room for it
-room : (d : tie.Else3) → let h = d.before.before in let a = h.before.before.before.before.before.before.args in
-    a.at + (h.header-length.result + length a.text.now) ≤ length a.out.now
-room d =
-    let h = d.before.before in
-    let a = h.before.before.before.before.before.before.args in
-    reaches-le a.out.now a.at (h.header-length.result + length a.text.now) (passed d.before.in_bounds.ensures d.if3.false)
-
 pub returns-then-size-gt-MOST_BYTES : goal.returns-then-size-gt-MOST_BYTES
 returns-then-size-gt-MOST_BYTES c =
     let a = c.args in
@@ -48,18 +40,18 @@ returns-then-not-in_bounds c =
 pub put_header-requires : goal.put_header-requires
 put_header-requires c =
     let a = c.args in
-    (lit≤ tt, lit≤ tt, string-room a.text.now a.out.now a.at _ c.header_length-header.ensures (room «Else3»))
+    (lit≤ tt, lit≤ tt, string-room a.text.now a.out.now a.at _ c.header_length-header.ensures (let a = c.args in reaches-le a.out.now a.at (c.header_length-header.result + length a.text.now) (passed c.in_bounds.ensures c.if-not-in_bounds.false-raw)))
 
 pub overflow_add-at : goal.overflow_add-at
-overflow_add-at c = omega (arith, room c)
+overflow_add-at c = omega (arith, (let a = c.args in reaches-le a.out.now a.at (c.header_length-header.result + length a.text.now) (passed c.in_bounds.ensures c.if-not-in_bounds.false-raw)))
 
 pub overflow_add-end : goal.overflow_add-end
-overflow_add-end c = omega (arith, room c)
+overflow_add-end c = omega (arith, (let a = c.args in reaches-le a.out.now a.at (c.header_length-header.result + length a.text.now) (passed c.in_bounds.ensures c.if-not-in_bounds.false-raw)))
 
 pub returns : goal.returns
 returns c =
     let a = c.args in
     let both = packs a.out.now a.at (string_form a.text.now) (pack_string a.text.now) _ _ ((let v = c.args.text.now in string-formed v c.if-size-gt-MOST_BYTES.false (passed c.is_utf8.ensures c.if-not-is_utf8.false-raw)))
     (length-string a.text.now a.out.now a.at _ c.header_length-header.ensures) c.in_bounds.ensures _ c.if-not-in_bounds.false-raw
-    (string-put a.text.now a.out.now a.at _ c.header_length-header.ensures _ _ (room c) c.put_header.ensures c.copy.ensures.filled) in
+    (string-put a.text.now a.out.now a.at _ c.header_length-header.ensures _ _ (let a = c.args in reaches-le a.out.now a.at (c.header_length-header.result + length a.text.now) (passed c.in_bounds.ensures c.if-not-in_bounds.false-raw)) c.put_header.ensures c.copy.ensures.filled) in
     record { answer = both.0; filled = both.1 }

@@ -25,7 +25,7 @@ bounds-out-at-2 c =
     omega (arith, wide_room a.small a.row a.size a.out.now a.at c.requires.2 c.size_width-width.result c.size_width-width.ensures c.if-size-lt16.false)
 
 pub shape_of-out : goal.shape_of-out
-shape_of-out c = c.write_unsigned.auto.0 ∙ simp length-set
+shape_of-out c = c.write_unsigned.auto.bytes ∙ simp length-set
 
 pub returns : goal.returns
 returns c =

@@ -22,7 +22,7 @@ pub bounds-out-at : goal.bounds-out-at
 bounds-out-at c = omega (arith, c.requires, length-integer c.args.number ((rw (to_z-of_z c.ranges.number) at (sym c.is_tiny.ensures ∙ c.if-is_tiny.false))))
 
 pub shape_of-out : goal.shape_of-out
-shape_of-out c = c.write_signed-2.auto.0 ∙ simp length-set
+shape_of-out c = c.write_signed-2.auto.bytes ∙ simp length-set
 
 pub returns : goal.returns
 returns c =

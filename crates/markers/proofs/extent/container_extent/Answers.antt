@@ -2,10 +2,7 @@
 use mathlib.Core.Path.{◌≡◌, sym, ◌∙◌, subst}
 use native.Mathlib.Omega.{arith}
 use borrow.Author.Rules.{rules}
-use denote.Enum.Declared.{tag_of}
-use Rattle.numbers.specs.declared.Unsigned.{Unsigned}
 use Rattle.numbers.specs.declared.Unsigned.TheVariants as U
-use Rattle.numbers.specs.contracts.Unsigned as Un
 use Rattle.markers.specs.Extents.{size_at}
 use Rattle.markers.proofs.Extents.{NoNumber, size-inside, container-unsized, container-there}
 use Rattle.markers.proofs.extent.container_extent.Goals as goal
@@ -13,9 +10,7 @@ use Rattle.markers.proofs.extent.container_extent.Goals as goal
 pub returns-in_default : goal.returns-in_default
 returns-in_default c =
     let a = c.args in
-    let e = c.size_at.ensures in
-    c.refused.ensures
-    ∙ container-unsized a.message.now a.at a.marker a.kind (subst (λ (u : Unsigned). NoNumber (tag_of Un.the_type u)) e c.in_default.keys2)
+    c.refused.ensures ∙ container-unsized a.message.now a.at a.marker a.kind (subst NoNumber c.size_at.ensures c.in_default.not-Number)
 
 pub overflow_add-result-2 : goal.overflow_add-result-2
 overflow_add-result-2 c =

@@ -3,11 +3,8 @@ use mathlib.Core.Path.{◌≡◌, sym, ◌∙◌, subst}
 use Prim.Native.Nat.{◌+◌, ◌≤◌}
 use native.Mathlib.Omega.{arith}
 use borrow.Author.Rules.{rules}
-use denote.Enum.Declared.{tag_of}
 use lib.ListN.{length}
-use Rattle.numbers.specs.declared.Unsigned.{Unsigned}
 use Rattle.numbers.specs.declared.Unsigned.TheVariants as U
-use Rattle.numbers.specs.contracts.Unsigned as Un
 use Rattle.markers.specs.Extents.{size_at}
 use Rattle.markers.proofs.Extents.{NoNumber, size-inside, leaf-unsized, leaf-short, leaf-there}
 use Rattle.markers.proofs.extent.leaf_extent.Goals as goal
@@ -15,9 +12,7 @@ use Rattle.markers.proofs.extent.leaf_extent.Goals as goal
 pub returns-in_default : goal.returns-in_default
 returns-in_default c =
     let a = c.args in
-    let e = c.size_at.ensures in
-    c.refused.ensures
-    ∙ leaf-unsized a.message.now a.at a.marker a.kind (subst (λ (u : Unsigned). NoNumber (tag_of Un.the_type u)) e c.in_default.keys2)
+    c.refused.ensures ∙ leaf-unsized a.message.now a.at a.marker a.kind (subst NoNumber c.size_at.ensures c.in_default.not-Number)
 
 pub overflow_add-start-2 : goal.overflow_add-start-2
 overflow_add-start-2 c = omega (arith, (let a = c.args in size-inside a.message.now a.at a.marker c.in-Number.n ((sym c.in-Number.is ∙ c.size_at.ensures)) c.requires.0 c.requires.1))

@@ -13,5 +13,5 @@ returns-in-1 c = c.small-in-1.ensures ∙ by-constant c.args.low c.requires 1 c.
 
 pub returns-in_default : goal.returns-in_default
 returns-in_default c =
-    let r = c.in_default.rest in
+    let r = c.in_default.in_default-own.rest in
     c.itself.ensures ∙ simp (ne_eqb _ _ r.0.1, ne_eqb _ _ r.1) at (by-constant c.args.low c.requires c.args.low refl)

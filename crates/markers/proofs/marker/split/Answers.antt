@@ -27,7 +27,7 @@ returns-in-14 c = c.reserved.ensures ∙ by-split c.args.marker 14 c.ranges.mark
 
 pub returns-in_default : goal.returns-in_default
 returns-in_default c =
-    let r = c.in_default.rest in
+    let r = c.in_default.in_default-own.rest in
     c.itself.ensures
     ∙ simp (ne_eqb _ _ r.0.0.0.0.0.0.1, ne_eqb _ _ r.0.0.0.0.0.1, ne_eqb _ _ r.0.0.0.0.1, ne_eqb _ _ r.0.0.0.1, ne_eqb _ _ r.0.0.1, ne_eqb _ _ r.0.1, ne_eqb _ _ r.1)
     at (by-split c.args.marker _ c.ranges.marker.fits refl)

@@ -36,7 +36,7 @@ returns-in-54 c = c.sized-in-54.ensures ∙ by_wide c.args.marker 0x36 c.require
 
 pub returns-in_default : goal.returns-in_default
 returns-in_default c =
-    let r = c.in_default.rest in
+    let r = c.in_default.in_default-own.rest in
     c.reserved.ensures
     ∙ simp (ne_eqb _ _ r.0.0.0.0.0.1, ne_eqb _ _ r.0.0.0.0.1, ne_eqb _ _ r.0.0.0.1, ne_eqb _ _ r.0.0.1, ne_eqb _ _ r.0.1, ne_eqb _ _ r.1)
     at (by_wide c.args.marker _ c.requires.0 c.requires.1 refl)

@@ -3,38 +3,35 @@
 use mathlib.Core.Path.{◌≡◌, refl, sym, ap, ◌∙◌}
 use mathlib.Core.Bool.{false}
 use mathlib.Core.List.{List}
-use Prim.Native.Nat.{ℕ, ◌+◌, ◌-◌, ◌≤◌}
+use Prim.Native.Nat.{ℕ, ◌+◌, ◌-◌, ◌≤◌, ◌<◌}
 use native.Mathlib.Omega.{arith}
 use borrow.Author.Rules.{rules}
 use lib.ListN.{length}
 use Rattle.slices.specs.Parts.{part}
 use Rattle.slices.specs.Equality.{same}
-use Rattle.values.specs.Private.Keys.{start_of, size_of}
-use Rattle.slices.proofs.Equality.{Comparing, comparing-none, other-size, last-differs, all-equal, one-equal, one-differs}
-use Rattle.values.proofs.KeySearch.{Searching, none_left, equal-key, other_key, key-inside-at}
+use Rattle.values.specs.Private.Keys.{start_of, size_of, KeysInside}
+use Rattle.slices.proofs.Equality.{Comparing, comparing-none, other-size, all-equal, one-equal, one-differs}
+use Rattle.values.proofs.KeySearch.{last-differs, Searching, none_left, equal-key, other_key, key-inside-at}
 use Rattle.values.proofs.keys.repeats.Goals as goal
 
 -- the key that a turn of the search looks at lies inside the message
-old-inside : (d : tie.After-wide2 invariant-loop decreases-loop invariant-search decreases-search) → d.before.before.wide.result + d.wide2.result ≤ length d.before.before.before.before.before.before.before.before.args.message.now
-old-inside d =
-    let a = d.before.before.before.before.before.before.before.before.args in
-    rw (d.before.before.wide.ensures, d.wide2.ensures)
-    (key-inside-at a.message.now a.scratch.now a.base a.count d.before.before.before.before.before.before.before.before.requires.2 (d.before.before.before.before.before.search.left - 1) (omega arith))
+old-inside : (s scratch : List ℕ) (base count : ℕ) → KeysInside s scratch base count → (i from n : ℕ) → i < count → from ≡ start_of scratch base i → n ≡ size_of scratch base i
+    → from + n ≤ length s
+old-inside s scratch base count k i from n h f g = rw (f, g) (key-inside-at s scratch base count k i h)
 
 -- it is the content that the scratch has
-old-is : (d : tie.After-wide2 invariant-loop decreases-loop invariant-search decreases-search) → let a = d.before.before.before.before.before.before.before.before.args in
-    part a.message.now (start_of a.scratch.now a.base (d.before.before.before.before.before.search.left - 1)) (size_of a.scratch.now a.base (d.before.before.before.before.before.search.left - 1))
-    ≡ part a.message.now d.before.before.wide.result d.wide2.result
-old-is d = rw (d.before.before.wide.ensures, d.wide2.ensures)
+old-is : (s scratch : List ℕ) (base i from n : ℕ) → from ≡ start_of scratch base i → n ≡ size_of scratch base i
+    → part s (start_of scratch base i) (size_of scratch base i) ≡ part s from n
+old-is s scratch base i from n f g = rw (f, g)
 
 pub search-init : goal.search-init
 search-init c = (omega arith, refl, refl)
 
 pub overflow_add-from : goal.overflow_add-from
-overflow_add-from c = omega (arith, old-inside «After-wide2», c.if-wide-size.true)
+overflow_add-from c = omega (arith, old-inside c.args.message.now c.args.scratch.now c.args.base c.args.count c.requires.2 (c.search.left - 1) c.wide-from.result c.wide.result (omega arith) c.wide-from.ensures c.wide.ensures, c.if-wide-size.true)
 
 pub bounds-message-from : goal.bounds-message-from
-bounds-message-from c = omega (arith, old-inside «After-wide2», c.if-wide-size.true)
+bounds-message-from c = omega (arith, old-inside c.args.message.now c.args.scratch.now c.args.base c.args.count c.requires.2 (c.search.left - 1) c.wide-from.result c.wide.result (omega arith) c.wide-from.ensures c.wide.ensures, c.if-wide-size.true)
 
 pub search-preserved-then-message-from : goal.search-preserved-then-message-from
 search-preserved-then-message-from c =
@@ -43,14 +40,14 @@ search-preserved-then-message-from c =
       c.search.invariant.1,
       other_key a.message.now a.scratch.now a.base (part a.message.now a.start a.size) a.count c.search.left c.search.invariant.2 c.search-test.true
           (ap (λ (x : List ℕ). same x (part a.message.now a.start a.size))
-          (old-is c ∙ ap (part a.message.now c.wide-from.result) c.if-wide-size.true)
+          (old-is c.args.message.now c.args.scratch.now c.args.base (c.search.left - 1) c.wide-from.result c.wide.result c.wide-from.ensures c.wide.ensures ∙ ap (part a.message.now c.wide-from.result) c.if-wide-size.true)
           ∙ last-differs a.message.now c.wide-from.result a.message.now a.start a.size c.if-size-gt0.true c.if-message-from.true),
     )
 
 pub loop-i-init : goal.loop-i-init
 loop-i-init c =
     let a = c.args in
-    (omega arith, c.search.invariant.1, omega (arith, old-inside c, c.if-wide-size.true), comparing-none a.message.now c.wide-from.result a.message.now a.start a.size)
+    (omega arith, c.search.invariant.1, omega (arith, old-inside c.args.message.now c.args.scratch.now c.args.base c.args.count c.requires.2 (c.search.left - 1) c.wide-from.result c.wide.result (omega arith) c.wide-from.ensures c.wide.ensures, c.if-wide-size.true), comparing-none a.message.now c.wide-from.result a.message.now a.start a.size)
 
 pub overflow_add-from-in-loop-i : goal.overflow_add-from-in-loop-i
 overflow_add-from-in-loop-i c = omega (arith, c.loop-i.invariant.2)
@@ -68,7 +65,7 @@ search-preserved-then-message-from-2 c =
       l.invariant.1,
       other_key a.message.now a.scratch.now a.base (part a.message.now a.start a.size) a.count c.search.left c.search.invariant.2 c.search-test.true
           (ap (λ (x : List ℕ). same x (part a.message.now a.start a.size))
-          (old-is c ∙ ap (part a.message.now c.wide-from.result) c.if-wide-size.true)
+          (old-is c.args.message.now c.args.scratch.now c.args.base (c.search.left - 1) c.wide-from.result c.wide.result c.wide-from.ensures c.wide.ensures ∙ ap (part a.message.now c.wide-from.result) c.if-wide-size.true)
           ∙ differs),
     )
 
@@ -88,8 +85,8 @@ search-preserved c =
       omega arith,
       c.search.invariant.1,
       other_key a.message.now a.scratch.now a.base (part a.message.now a.start a.size) a.count c.search.left c.search.invariant.2 c.search-test.true
-          (ap (λ (x : List ℕ). same x (part a.message.now a.start a.size)) (old-is c)
-          ∙ other-size a.message.now c.wide-from.result a.message.now a.start a.size c.wide.result (old-inside c) c.requires.0 c.if-wide-size.false),
+          (ap (λ (x : List ℕ). same x (part a.message.now a.start a.size)) (old-is c.args.message.now c.args.scratch.now c.args.base (c.search.left - 1) c.wide-from.result c.wide.result c.wide-from.ensures c.wide.ensures)
+          ∙ other-size a.message.now c.wide-from.result a.message.now a.start a.size c.wide.result (old-inside c.args.message.now c.args.scratch.now c.args.base c.args.count c.requires.2 (c.search.left - 1) c.wide-from.result c.wide.result (omega arith) c.wide-from.ensures c.wide.ensures) c.requires.0 c.if-wide-size.false),
     )
 
 pub returns-after-search : goal.returns-after-search
@@ -104,5 +101,5 @@ returns-then-i-size c =
     let a = c.args in
     let l = c.loop-i in
     sym (equal-key a.message.now a.scratch.now a.base (part a.message.now a.start a.size) a.count c.search.left c.search.invariant.2 c.search-test.true
-    (ap (λ (x : List ℕ). same x (part a.message.now a.start a.size)) (old-is c ∙ ap (part a.message.now c.wide-from.result) c.if-wide-size.true)
+    (ap (λ (x : List ℕ). same x (part a.message.now a.start a.size)) (old-is c.args.message.now c.args.scratch.now c.args.base (c.search.left - 1) c.wide-from.result c.wide.result c.wide-from.ensures c.wide.ensures ∙ ap (part a.message.now c.wide-from.result) c.if-wide-size.true)
     ∙ all-equal a.message.now c.wide-from.result a.message.now a.start a.size l.i l.invariant.3 (omega (arith, c.if-i-size.true))))

@@ -10,8 +10,8 @@ use lib.ListN.{length}
 use Rattle.slices.specs.Parts.{part}
 use Rattle.slices.specs.Equality.{same}
 use Rattle.values.specs.Private.Keys.{start_of, size_of}
-use Rattle.slices.proofs.Equality.{Comparing, comparing-none, other-size, last-differs, all-equal, one-equal, one-differs}
-use Rattle.values.proofs.KeySearch.{Searching, none_left, equal-key, other_key, key-inside-at}
+use Rattle.slices.proofs.Equality.{Comparing, comparing-none, other-size, all-equal, one-equal, one-differs}
+use Rattle.values.proofs.KeySearch.{last-differs, Searching, none_left, equal-key, other_key, key-inside-at}
 use Rattle.values.proofs.keys.repeats.Given as goal
 
 abbrev pub invariant-loop-i : goal.invariant-loop-i

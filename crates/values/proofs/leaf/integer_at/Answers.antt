@@ -1,20 +1,15 @@
 -- `values::leaf::integer_at` meets its contract. Assumes nothing.
-use mathlib.Core.Path.{sym, ◌∙◌, subst}
+use mathlib.Core.Path.{sym, ◌∙◌}
 use borrow.Author.Rules.{rules, sfits_of}
-use denote.Enum.Declared.{tag_of}
 use mir.Facts.{to_z-of_z}
-use Rattle.numbers.specs.declared.Signed.{Signed}
-use Rattle.numbers.specs.contracts.Signed as Sg
 use Rattle.numbers.proofs.Access.{signed-found}
-use Rattle.markers.proofs.Extents.{NoNumber}
 use Rattle.values.proofs.Leaves.{signed-there}
 use Rattle.values.proofs.leaf.integer_at.Goals as goal
 
 pub returns-in_default : goal.returns-in_default
 returns-in_default c =
     let a = c.args in
-    absurd (signed-there a.message.now a.start a.size c.requires.0 c.requires.1
-    (subst (λ (u : Signed). NoNumber (tag_of Sg.the_type u)) c.read_signed.ensures c.in-Number.in-Number-own.keys2))
+    absurd (signed-there a.message.now a.start a.size c.requires.0 c.requires.1 (λ x e. c.in_default.not-Number x (c.read_signed.ensures ∙ e)))
 
 pub returns : goal.returns
 returns c =

@@ -31,7 +31,7 @@ returns-in-Boolean c = let a = c.args in boolean-head a.message.now a.kind a.sta
 pub returns-in-Integer : goal.returns-in-Integer
 returns-in-Integer c =
     let a = c.args in
-    rw (to_z-of_z (record { sfits = c.integer_at.type-inv }))
+    rw (to_z-of_z (record { sfits = c.integer_at.type_inv }))
     (ap H.Integer c.integer_at.ensures ∙ integer-head a.message.now a.kind a.start a.size c.in-Integer.is)
 
 pub returns-in-Float : goal.returns-in-Float
