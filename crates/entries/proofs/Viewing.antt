@@ -4,10 +4,9 @@ use mathlib.Core.Bool.{false}
 use mathlib.Core.List.{List, [], ◌∷◌}
 use Prim.Native.Nat.{ℕ, ◌+◌, ◌≤◌}
 use native.Mathlib.Omega.{arith}
+use lib.IntN.{ℤ}
 use lib.ListN.{length, get_or}
 use borrow.Author.Tests.{ne_eqb}
-use denote.Enum.Declared.{tag_of}
-use types.Run.{OneOf, miss}
 use Rattle.slices.specs.Parts.{part}
 use Rattle.slices.proofs.Parts.{length_part, part-cons}
 use Rattle.slices.specs.Equality.{same}
@@ -15,7 +14,6 @@ use Rattle.values.specs.Walk.{peek_at}
 use Rattle.values.specs.declared.head.Head.{Head}
 use Rattle.values.specs.declared.head.Head.TheVariants as H
 use Rattle.values.specs.declared.walk.Peeked.TheVariants as Pk
-use Rattle.values.specs.contracts.head.Head as Head'
 use Rattle.slices.proofs.Equality.{same_length}
 use Rattle.entries.specs.View.{mode_named}
 use Rattle.entries.specs.Walk.{entries_head, view_head, view_at}
@@ -25,31 +23,29 @@ use Rattle.entries.specs.declared.view.View.TheVariants as As
 use Rattle.entries.specs.declared.Entries.TheVariants as E
 
 -- ---- heads
--- the head is of one of these kinds, by their order
-abbrev pub Kinds : List ℕ → Head → Type 0
-Kinds ks h = OneOf ks (tag_of Head'.the_type h)
+pub not-dictionary : (h : Head) → ((first n : ℕ) → h ≡ H.Dictionary first n → ⊥) → E.None ≡ entries_head h
+not-dictionary H.Null d = refl
+not-dictionary (H.Boolean b) d = refl
+not-dictionary (H.Integer z) d = refl
+not-dictionary (H.Float bits) d = refl
+not-dictionary (H.Bytes start size) d = refl
+not-dictionary (H.String start size) d = refl
+not-dictionary (H.List first n) d = refl
+not-dictionary (H.Dictionary first n) d = absurd (d first n refl)
+not-dictionary (H.Structure tag first n) d = refl
 
-pub not-dictionary : (h : Head) → Kinds (0 ∷ 1 ∷ 2 ∷ 3 ∷ 4 ∷ 5 ∷ 6 ∷ 8 ∷ []) h → E.None ≡ entries_head h
-not-dictionary H.Null e = refl
-not-dictionary (H.Boolean b) e = refl
-not-dictionary (H.Integer z) e = refl
-not-dictionary (H.Float bits) e = refl
-not-dictionary (H.Bytes start size) e = refl
-not-dictionary (H.String start size) e = refl
-not-dictionary (H.List first n) e = refl
-not-dictionary (H.Dictionary first n) e = absurd (miss (0 ∷ 1 ∷ 2 ∷ 3 ∷ 4 ∷ 5 ∷ 6 ∷ 8 ∷ []) 7 tt e)
-not-dictionary (H.Structure tag first n) e = refl
-
-pub of-no-use : (s : List ℕ) (h : Head) → Kinds (1 ∷ 3 ∷ 4 ∷ 8 ∷ []) h → As.Other ≡ view_head s h
-of-no-use s H.Null e = absurd (miss (1 ∷ 3 ∷ 4 ∷ 8 ∷ []) 0 tt e)
-of-no-use s (H.Boolean b) e = refl
-of-no-use s (H.Integer z) e = absurd (miss (1 ∷ 3 ∷ 4 ∷ 8 ∷ []) 2 tt e)
-of-no-use s (H.Float bits) e = refl
-of-no-use s (H.Bytes start size) e = refl
-of-no-use s (H.String start size) e = absurd (miss (1 ∷ 3 ∷ 4 ∷ 8 ∷ []) 5 tt e)
-of-no-use s (H.List first n) e = absurd (miss (1 ∷ 3 ∷ 4 ∷ 8 ∷ []) 6 tt e)
-of-no-use s (H.Dictionary first n) e = absurd (miss (1 ∷ 3 ∷ 4 ∷ 8 ∷ []) 7 tt e)
-of-no-use s (H.Structure tag first n) e = refl
+pub of-no-use : (s : List ℕ) (h : Head) → (h ≡ H.Null → ⊥) → ((start size : ℕ) → h ≡ H.String start size → ⊥)
+    → ((z : ℤ) → h ≡ H.Integer z → ⊥) → ((first n : ℕ) → h ≡ H.List first n → ⊥) → ((first n : ℕ) → h ≡ H.Dictionary first n → ⊥)
+    → As.Other ≡ view_head s h
+of-no-use s H.Null null string integer list dictionary = absurd (null refl)
+of-no-use s (H.Boolean b) null string integer list dictionary = refl
+of-no-use s (H.Integer z) null string integer list dictionary = absurd (integer z refl)
+of-no-use s (H.Float bits) null string integer list dictionary = refl
+of-no-use s (H.Bytes start size) null string integer list dictionary = refl
+of-no-use s (H.String start size) null string integer list dictionary = absurd (string start size refl)
+of-no-use s (H.List first n) null string integer list dictionary = absurd (list first n refl)
+of-no-use s (H.Dictionary first n) null string integer list dictionary = absurd (dictionary first n refl)
+of-no-use s (H.Structure tag first n) null string integer list dictionary = refl
 
 -- a view is that of the head found
 pub view-is : (s : List ℕ) (place : ℕ) (h : Head) (v : View) → (place ≡ 0 → ⊥) → Pk.Value h ≡ peek_at s place → v ≡ view_head s h → v ≡ view_at s place

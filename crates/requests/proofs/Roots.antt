@@ -1,10 +1,9 @@
 -- From what is told of a message to the request that it is. Assumes nothing.
-use mathlib.Core.Path.{◌≡◌, refl, ap, ◌∙◌, subst}
-use mathlib.Core.List.{List, [], ◌∷◌}
+use mathlib.Core.Path.{◌≡◌, refl, ap, ◌∙◌}
+use mathlib.Core.List.{List}
 use Prim.Native.Nat.{ℕ}
 use native.Mathlib.Omega.{arith}
 use lib.ListN.{length}
-use types.Run.{miss}
 use Rattle.refusal.specs.Answer.{returned, refused}
 use Rattle.markers.specs.Value.{Value, null, boolean, integer, float, bytes, string, list, dictionary, structure, count, first}
 use Rattle.values.specs.Decode.{decode}
@@ -19,13 +18,12 @@ use Rattle.requests.specs.Checks.{complaints}
 use Rattle.requests.specs.Requests.{tagged, request_in, request_of, told}
 use Rattle.requests.specs.Private.Fields.{Answers}
 use Rattle.requests.specs.declared.request.Reading.{Reading}
-use Rattle.entries.proofs.Viewing.{Kinds}
 
 clash : ◌≡◌ {A = ℕ} 0 1 → ⊥
 clash e = omega arith
 
 -- a value that is no Structure is no request
-other-root : (minor : ℕ) (v : Value) (end : ℕ) → Kinds (0 ∷ 1 ∷ 2 ∷ 3 ∷ 4 ∷ 5 ∷ 6 ∷ 7 ∷ []) (head_of v end) → refused 14 0 ≡ request_in complaints minor v
+other-root : (minor : ℕ) (v : Value) (end : ℕ) → ((tag p n : ℕ) → head_of v end ≡ H.Structure tag p n → ⊥) → refused 14 0 ≡ request_in complaints minor v
 unfolding head_of
 other-root minor null end e = refl
 other-root minor (boolean b) end e = refl
@@ -35,7 +33,7 @@ other-root minor (bytes start content) end e = refl
 other-root minor (string start content) end e = refl
 other-root minor (list vs) end e = refl
 other-root minor (dictionary es) end e = refl
-other-root minor (structure tag vs) end e = absurd (miss (0 ∷ 1 ∷ 2 ∷ 3 ∷ 4 ∷ 5 ∷ 6 ∷ 7 ∷ []) 8 tt e)
+other-root minor (structure tag vs) end e = absurd (e tag (first vs end) (count vs) refl)
 
 -- a Structure's fields lie where its head says
 structure-root : (s : List ℕ) (minor : ℕ) (v : Value) (end tag p n : ℕ) → PartsLie s most_open v end → H.Structure tag p n ≡ head_of v end
@@ -65,9 +63,8 @@ module _ (s : List ℕ) (h : Head) (end : ℕ) (t : returned (record { head = h;
   is-request : request_in complaints minor value.0 ≡ request_of minor (decode s)
   is-request = rw value.1
 
-  pub no-structure : Kinds (0 ∷ 1 ∷ 2 ∷ 3 ∷ 4 ∷ 5 ∷ 6 ∷ 7 ∷ []) h → refused 14 0 ≡ request_of minor (decode s)
-  no-structure k =
-      other-root minor value.0 (length s) (subst (Kinds (0 ∷ 1 ∷ 2 ∷ 3 ∷ 4 ∷ 5 ∷ 6 ∷ 7 ∷ [])) value.2 k) ∙ is-request
+  pub no-structure : ((tag p n : ℕ) → h ≡ H.Structure tag p n → ⊥) → refused 14 0 ≡ request_of minor (decode s)
+  no-structure k = other-root minor value.0 (length s) (λ tag p n e. k tag p n (value.2 ∙ e)) ∙ is-request
 
   pub structure-there : (tag p n : ℕ) → H.Structure tag p n ≡ h → (r : Reading) → Answers s p n (tagged complaints minor tag) r → told r ≡ request_of minor (decode s)
   structure-there tag p n e r a =

@@ -14,13 +14,6 @@ use Rattle.entries.proofs.Peeking.{string-within}
 use Rattle.entries.proofs.Walking.{Noting, all_noted, no_key, no_value, one-noted, last-noted}
 use Rattle.entries.proofs.find.Goals as goal
 
--- the key of this turn
-key-found : (d : tie.After-known-told invariant-loop decreases-loop) → T.At d.before.key.given.0.0 ≡ string_found (peek_at d.before.before.before.before.before.before.before.args.message.now d.before.before.before.before.before.loop.at)
-key-found d = sym d.before.key.given.1 ∙ d.before.before.before.string-at.ensures
-
-inside : (d : tie.After-known-told invariant-loop decreases-loop) → d.before.key.given.0.0.start + d.before.key.given.0.0.size ≤ length d.before.before.before.before.before.before.before.args.message.now
-inside d = (string-within d.before.before.before.before.before.before.before.args.message.now d.before.before.before.before.before.loop.at _ (key-found d)).inside
-
 pub loop-i-init : goal.loop-i-init
 loop-i-init c = (omega arith, simp unary_clauses)
 
@@ -33,10 +26,11 @@ returns-in_default c =
     no_key a.message.now a.count a.first l.i l.at l.found l.invariant.1 c.loop-i-test.true (sym c.in_default.is ∙ c.string_at.ensures)
 
 pub overflow_add-place : goal.overflow_add-place
-overflow_add-place c = let h = inside c in omega arith
+overflow_add-place c =
+    let w = string-within c.args.message.now c.loop-i.at _ (sym c.in-At.is ∙ c.string_at.ensures) in omega (arith, w.inside)
 
 pub number_of-number-requires : goal.number_of-number-requires
-number_of-number-requires c = inside c
+number_of-number-requires c = (string-within c.args.message.now c.loop-i.at _ (sym c.in-At.is ∙ c.string_at.ensures)).inside
 
 pub offset_bounds-found-number : goal.offset_bounds-found-number
 offset_bounds-found-number c = let h = number_bound c.number_of-number.result _ c.number_of-number.ensures in omega arith
@@ -47,7 +41,7 @@ bounds-found-number c = number_bound _ _ c.number_of-number.ensures
 pub returns-then-i-count : goal.returns-then-i-count
 returns-then-i-count c =
     let a = c.args in let l = c.loop-i in
-    last-noted a.message.now a.count a.first l.i l.at l.found l.invariant.1 c.if-i-count.true _ (key-found «After-known_told») _ c.number_of-number.ensures
+    last-noted a.message.now a.count a.first l.i l.at l.found l.invariant.1 c.if-i-count.true _ (sym c.in-At.is ∙ c.string_at.ensures) _ c.number_of-number.ensures
 
 pub skip-requires : goal.skip-requires
 skip-requires c = tt
@@ -55,14 +49,14 @@ skip-requires c = tt
 pub returns-in_default-skip : goal.returns-in_default-skip
 returns-in_default-skip c =
     let a = c.args in let l = c.loop-i in
-    no_value a.message.now a.count a.first l.i l.at l.found l.invariant.1 c.loop-i-test.true _ (key-found «After-known_told») _ c.number_of-number.ensures
+    no_value a.message.now a.count a.first l.i l.at l.found l.invariant.1 c.loop-i-test.true _ (sym c.in-At.is ∙ c.string_at.ensures) _ c.number_of-number.ensures
     (sym c.in_default-skip.is ∙ c.skip.ensures)
 
 pub loop-i-preserved : goal.loop-i-preserved
 loop-i-preserved c =
     let a = c.args in let l = c.loop-i in (
       omega arith,
-      one-noted a.message.now a.count a.first l.i l.at l.found l.invariant.1 c.loop-i-test.true _ (key-found «After-known_told») _ c.number_of-number.ensures _
+      one-noted a.message.now a.count a.first l.i l.at l.found l.invariant.1 c.loop-i-test.true _ (sym c.in-At.is ∙ c.string_at.ensures) _ c.number_of-number.ensures _
           (sym c.in-To.is ∙ c.skip.ensures),
     )
 

@@ -1,5 +1,5 @@
 -- `entries::view::mode_named` meets its contract: by the content's size and its one byte. Assumes nothing.
-use borrow.Author.Rules.{rules}
+use native.Mathlib.Omega.{arith}
 use Rattle.entries.proofs.Viewing.{mode-size, mode-read, mode-write, mode-other}
 use Rattle.entries.proofs.view.mode_named.Goals as goal
 
@@ -15,4 +15,4 @@ returns-in-119 c = let a = c.args in mode-write a.message.now a.start a.size c.r
 pub returns-in_default : goal.returns-in_default
 returns-in_default c =
     let a = c.args in
-    mode-other a.message.now a.start a.size c.requires c.if-size-ne1.false c.in_default.rest.0.1 c.in_default.rest.1
+    mode-other a.message.now a.start a.size c.requires c.if-size-ne1.false (omega arith) (omega arith)

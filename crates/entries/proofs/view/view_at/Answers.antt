@@ -13,10 +13,6 @@ use Rattle.entries.proofs.Peeking.{string-within}
 use Rattle.entries.proofs.Viewing.{view-is, of-no-use}
 use Rattle.entries.proofs.view.view_at.Goals as goal
 
-here : (d : tie.After-head) (v : View) → v ≡ view_head d.before.before.before.before.before.args.message.now d.head.given.0.0
-    → v ≡ view_at d.before.before.before.before.before.args.message.now d.before.before.before.before.before.args.place
-here d v e = view-is _ _ d.head.given.0.0 v d.before.before.before.if1.false (found d) e
-
 pub returns-then-place-eq0 : goal.returns-then-place-eq0
 returns-then-place-eq0 c = rw (eq-eqb _ _ c.if-place-eq0.true)
 
@@ -27,21 +23,24 @@ pub mode_named-mode-requires : goal.mode_named-mode-requires
 mode_named-mode-requires c = (string-within _ _ _ (ap string_found (ap P.Value (sym c.in-String.is) ∙ (sym c.in-Value.is ∙ c.peek.ensures)))).inside
 
 pub returns-in-Null : goal.returns-in-Null
-returns-in-Null c = here «After-head» _ (ap (view_head _) (sym c.in-Null.is))
+returns-in-Null c = view-is _ _ c.in-Value.head _ c.if-place-eq0.false (sym c.in-Value.is ∙ c.peek.ensures) (ap (view_head _) (sym c.in-Null.is))
 
 pub returns-in-String : goal.returns-in-String
-returns-in-String c = here «After-head» _ (ap (As.String (span c.in-String.start c.in-String.size)) c.mode_named-mode.ensures ∙ ap (view_head _) (sym c.in-String.is))
+returns-in-String c = view-is _ _ c.in-Value.head _ c.if-place-eq0.false (sym c.in-Value.is ∙ c.peek.ensures) (ap (As.String (span c.in-String.start c.in-String.size)) c.mode_named-mode.ensures ∙ ap (view_head _) (sym c.in-String.is))
 
 pub returns-in-Integer : goal.returns-in-Integer
 returns-in-Integer c =
-    here «After-head» _
-    (ap As.Integer (to_z-of_z (sfits_of c.in-Integer.known_told-in-Integer-1-own.given.0.1)) ∙ ap (view_head _) (sym c.in-Integer.is))
+    view-is _ _ c.in-Value.head _ c.if-place-eq0.false (sym c.in-Value.is ∙ c.peek.ensures)
+    (ap As.Integer (search rules) ∙ ap (view_head _) (sym c.in-Integer.is))
 
 pub returns-in-List : goal.returns-in-List
-returns-in-List c = here «After-head» _ (ap As.List c.first_wrong.ensures ∙ ap (view_head _) (sym c.in-List.is))
+returns-in-List c = view-is _ _ c.in-Value.head _ c.if-place-eq0.false (sym c.in-Value.is ∙ c.peek.ensures) (ap As.List c.first_wrong.ensures ∙ ap (view_head _) (sym c.in-List.is))
 
 pub returns-in-Dictionary : goal.returns-in-Dictionary
-returns-in-Dictionary c = here «After-head» _ (ap (view_head _) (sym c.in-Dictionary.is))
+returns-in-Dictionary c = view-is _ _ c.in-Value.head _ c.if-place-eq0.false (sym c.in-Value.is ∙ c.peek.ensures) (ap (view_head _) (sym c.in-Dictionary.is))
 
 pub returns-in_default-head : goal.returns-in_default-head
-returns-in_default-head c = here «After-head» _ (of-no-use _ c.in-Value.head c.in-Null.in-Null-own.keys6)
+returns-in_default-head c =
+    let d = c.in_default-head in
+    view-is _ _ c.in-Value.head _ c.if-place-eq0.false (sym c.in-Value.is ∙ c.peek.ensures)
+    (of-no-use _ c.in-Value.head d.not-Null d.not-String d.not-Integer d.not-List d.not-Dictionary)

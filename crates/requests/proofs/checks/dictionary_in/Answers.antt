@@ -14,4 +14,4 @@ pub returns-in-Dictionary : goal.returns-in-Dictionary
 returns-in-Dictionary c = ap (dictionary_as complaints c.args.entry.place) (sym c.in-Dictionary.is)
 
 pub returns-in_default : goal.returns-in_default
-returns-in_default c = let e = c.args.entry in ap refused_by c.complaint.ensures ∙ not-dictionary e.place e.view c.in_default.keys3
+returns-in_default c = let e = c.args.entry in ap refused_by c.complaint.ensures ∙ not-dictionary e.place e.view c.in_default.not-Absent c.in_default.not-Dictionary

@@ -17,4 +17,4 @@ pub returns-in-At : goal.returns-in-At
 returns-in-At c = ap refused_by c.complaint.ensures ∙ rw (c.in-List.is, c.in-At.is)
 
 pub returns-in_default : goal.returns-in_default
-returns-in_default c = let e = c.args.entry in ap refused_by c.complaint-in_default.ensures ∙ not-list e.place e.view c.in_default.keys3
+returns-in_default c = let e = c.args.entry in ap refused_by c.complaint-in_default.ensures ∙ not-list e.place e.view c.in_default.not-Absent c.in_default.not-List

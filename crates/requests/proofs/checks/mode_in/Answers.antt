@@ -20,4 +20,4 @@ pub returns-in-Write : goal.returns-in-Write
 returns-in-Write c = rw (c.in-String.is, c.in-Write.is)
 
 pub returns-in_default : goal.returns-in_default
-returns-in_default c = let e = c.args.entry in ap refused_by c.complaint-in_default.ensures ∙ no_mode e.place e.view c.in_default.keys3
+returns-in_default c = let e = c.args.entry in ap refused_by c.complaint-in_default.ensures ∙ no_mode e.place e.view c.in_default.not-Absent c.in_default.not-String

@@ -14,4 +14,4 @@ pub returns-in-String : goal.returns-in-String
 returns-in-String c = ap (string_as complaints c.args.entry.place) (sym c.in-String.is)
 
 pub returns-in_default : goal.returns-in_default
-returns-in_default c = let e = c.args.entry in ap refused_by c.complaint.ensures ∙ not-string e.place e.view c.in_default.keys3
+returns-in_default c = let e = c.args.entry in ap refused_by c.complaint.ensures ∙ not-string e.place e.view c.in_default.not-Absent c.in_default.not-String

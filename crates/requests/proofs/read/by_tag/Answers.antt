@@ -1,5 +1,6 @@
 -- `requests::read::by_tag` meets its contract: by the tag. Assumes nothing.
 use mathlib.Core.Path.{ap, ◌∙◌}
+use native.Mathlib.Omega.{arith}
 use borrow.Author.Tests.{ne_eqb}
 use borrow.Author.Rules.{rules}
 use Rattle.requests.specs.Requests.{tagged, told}
@@ -45,15 +46,15 @@ returns-in-63 c = λ vs fields. c.extra_alone-in-63.ensures vs fields ∙ rw c.i
 pub returns-in_default : goal.returns-in_default
 unfolding tagged
 returns-in_default c =
-    let r = c.in_default.rest in λ vs fields.
+    let t = c.args.tag in λ vs fields.
     ap told c.refused.ensures ∙ rw (
-      ne_eqb _ _ r.0.0.0.0.0.0.0.0.1,
-      ne_eqb _ _ r.0.0.0.0.0.0.0.1,
-      ne_eqb _ _ r.0.0.0.0.0.0.1,
-      ne_eqb _ _ r.0.0.0.0.0.1,
-      ne_eqb _ _ r.0.0.0.0.1,
-      ne_eqb _ _ r.0.0.0.1,
-      ne_eqb _ _ r.0.0.1,
-      ne_eqb _ _ r.0.1,
-      ne_eqb _ _ r.1,
+      ne_eqb t 0x01 (omega arith),
+      ne_eqb t 0x02 (omega arith),
+      ne_eqb t 0x0F (omega arith),
+      ne_eqb t 0x10 (omega arith),
+      ne_eqb t 0x11 (omega arith),
+      ne_eqb t 0x12 (omega arith),
+      ne_eqb t 0x13 (omega arith),
+      ne_eqb t 0x2F (omega arith),
+      ne_eqb t 0x3F (omega arith),
     )

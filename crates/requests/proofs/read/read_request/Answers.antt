@@ -10,7 +10,7 @@ pub returns-in_default : goal.returns-in_default
 returns-in_default c =
     let a = c.args in ap told c.refused.ensures
     ∙ no-structure a.message.now c.in-Value.head c.in-Value.end (ap told_value (sym c.in-Value.is) ∙ c.read_message.ensures) a.version.minor
-    c.in-Structure.in-Structure-own.keys2
+    c.in_default.not-Structure
 
 pub returns-in-Structure : goal.returns-in-Structure
 returns-in-Structure c =

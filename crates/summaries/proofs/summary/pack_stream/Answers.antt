@@ -24,5 +24,5 @@ pub returns : goal.returns
 returns c =
     let a = c.args in
     let both = stream-packed a.number a.out.now a.at _ _ c.stream_length.ensures c.in_bounds.ensures c.if-not-in_bounds.false-raw
-    _ _ c.pack_integer.result _ (stream-number c.ranges.number) c.copy.ensures.filled c.pack_integer.ensures in
+    _ _ c.pack_integer.result _ (stream-number c.ranges.number) c.copy.ensures.filled (c.pack_integer.ensures.answer, c.pack_integer.ensures.filled) in
     record { answer = both.0; filled = both.1 }
