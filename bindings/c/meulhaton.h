@@ -1,6 +1,6 @@
 /* Meulhaton for C: the server's end of Bolt 4.0, 4.1 and 4.2 as functions on numbers and bytes.
  *
- * Link target/staticlib/libmeulhaton.a, which `rt staticlib meulhaton` writes (x86-64 Linux). Every function is proved, in the crate
+ * Link target/staticlib/libmeulhaton.a, which `tools/build meulhaton` writes (x86-64 Linux). Every function is proved, in the crate
  * `meulhaton`, to answer what the layer below it is defined to answer, to write nothing outside what it is lent, and to return. It
  * allocates nothing, keeps nothing between calls and does no input or output.
  *

@@ -1,4 +1,4 @@
-//! Links the proved library, which `rt staticlib meulhaton` writes at the repository's root.
+//! Links the proved library, which `tools/build meulhaton` writes at the repository's root.
 use std::path::Path;
 
 fn main() {
@@ -6,7 +6,7 @@ fn main() {
     let archive = folder.join("libmeulhaton.a");
     println!("cargo:rerun-if-changed={}", archive.display());
     if !archive.exists() {
-        panic!("{} is not there: run `rt staticlib meulhaton` at the repository's root", archive.display());
+        panic!("{} is not there: run `tools/build meulhaton` at the repository's root", archive.display());
     }
     println!("cargo:rustc-link-search=native={}", folder.display());
     println!("cargo:rustc-link-lib=static=meulhaton");

@@ -1,4 +1,4 @@
-//! Links the proved UTF-8 check, which `rt staticlib utf8_c` writes at the repository's root.
+//! Links the proved UTF-8 check, which `tools/build utf8_c` writes at the repository's root.
 use std::path::Path;
 
 fn main() {
@@ -6,7 +6,7 @@ fn main() {
     let archive = folder.join("libutf8_c.a");
     println!("cargo:rerun-if-changed={}", archive.display());
     if !archive.exists() {
-        panic!("{} is not there: run `rt staticlib utf8_c` at the repository's root", archive.display());
+        panic!("{} is not there: run `tools/build utf8_c` at the repository's root", archive.display());
     }
     println!("cargo:rustc-link-search=native={}", folder.display());
     println!("cargo:rustc-link-lib=static=utf8_c");

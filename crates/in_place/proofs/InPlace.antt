@@ -13,9 +13,9 @@ use mathlib.Core.Path.{◌≡◌, refl, sym, subst}
 use Prim.Native.Nat.{ℕ}
 use mathlib.Core.List.{[], ◌∷◌, List}
 use seplogic.Ra.Ura.{Ura}
-use seplogic.Ra.TreeShare.{full_share}
+use base.Fraction.{full_share}
 use lib.Dec.{T as Holds}
-use mir.Syntax.{Name, Sym, Ty, ty_struct, tcons, tnil, named, Local, local, value_local, Fn}
+use mir.Syntax.{Callee, Sym, Ty, ty_struct, tcons, tnil, named, Local, local, value_local, Fn}
 use mir.Val.{Val, vptr, vstruct, vcons, vnil, has_ty, WT}
 use base.Logic.{SProp, ent, sep, emp, via, fst∗, id⊢}
 use base.Fml.{GName, Lft, Share, Fml, ftrue, fat, flft}
@@ -32,7 +32,9 @@ use sound.WpLaws.{FmC, fm_of, WpFn-mono}
 use denote.RattleType.{RattleType, Denots, Valss, flat, owns}
 use denote.Shadow.{makes_shadow}
 use denote.Laws.{Is, Ises, Are, Spells, valss, Tellss, Tells, Typed, Lawful, Makes}
-use denote.Memory.{cell_at, lone}
+use denote.Memory.{cell_at, lone, part_at, shared_of}
+use denote.Lends.{Lent}
+use denote.Copied.{Recorded-Copied}
 use denote.Exit.{Exit, yes, unchanged, under, Last, left}
 use denote.Ref.{MutBor, mut_vals, mut_Tells}
 use denote.Signature.{Slot, plain, mut_ref_to, types_at}
@@ -59,6 +61,7 @@ pub record Plain : Type 2 where
   pub lawful : {M : Type 1} {𝓤 : Ura M} (𝓛 : Logic 𝓤) → Lawful 𝓛 row
   pub makes : {M : Type 1} {𝓤 : Ura M} (𝓛 : Logic 𝓤) → Makes 𝓛 row (Is row)
   pub still : row.exit yes ≡ unchanged
+  pub lends : {M : Type 1} {𝓤 : Ura M} (𝓛 : Logic 𝓤) (s : Share) (x : row.Denot) (b o : ℕ) → Lent 𝓛 (part_at row s x b o) (shared_of row x b o)
 
 -- a value's own machine value is one of it
 abbrev pub Fits : (P : Plain) → P.row.Denot → Type 0
@@ -77,6 +80,7 @@ of_field F L pl c one = record {
   lawful = λ 𝓛. recorded_lawful F.row F.Value F.into F.into_one 𝓛 (L.lawful 𝓛);
   makes = λ 𝓛 x vs. makes_shadow 𝓛 (F.row.own_val (F.into x) vs) (pl (F.into x) vs);
   still = λ i. under F.into (c.still yes i);
+  lends = λ {M} {𝓤} 𝓛. (Recorded-Copied 𝓛 F.row F.Value F.into F.into_one (c.copied M 𝓤 𝓛)).lends;
 }
 
 -- a type that is not declared
@@ -90,6 +94,7 @@ of-builtin F L pl c one = record {
   lawful = L.lawful;
   makes = λ 𝓛 x vs. makes_shadow 𝓛 (F.row.own_val x vs) (pl x vs);
   still = c.still yes;
+  lends = λ {M} {𝓤} 𝓛. (c.copied M 𝓤 𝓛).lends;
 }
 
 -- an array of plain data
@@ -206,7 +211,7 @@ module _ (T : Plain) where
 
 -- ---- a function that is called: its name in the caller's environment, its routine, and that this meets the contract K
 pub record Cited {M : Type 1} (𝓤 : Ura M) (H : Heap 𝓤) (𝓜 : Model 𝓤 H) (𝓡 : Running 𝓤 H 𝓜) (env : Env) (K : Contract 𝓤) : Type 2 where
-  pub name : Name
+  pub name : Callee
   pub routine : Routine
   pub is : env name ≡ routine
   pub met : Triple 𝓤 (𝓡.run routine) K
@@ -217,7 +222,7 @@ knows {𝓤 = 𝓤} {H = H} {𝓜 = 𝓜} {𝓡 = 𝓡} {env = env} {K = K} f = 
 -- ---- the function, on the record T and Xs, which returns R
 module _ (T R : Plain) (Xs : List Plain) where
   abbrev pub this : Ended
-  this = record { signature = record { lifetimes = 1; outlives = []; params = record-slot T ∷ slots 1 Xs; returned = plain (λ _. R.row) }; kept = (yes, all yes (slots 1 Xs)) }
+  this = record { signature = record { lifetimes = 1; outlives = []; params = record-slot T ∷ slots 1 Xs; result = plain (λ _. R.row) }; kept = (yes, all yes (slots 1 Xs)) }
 
   abbrev stayed : Held → Stays this.signature.params this.kept
   stayed m = (stay-by T m, stay 1 Xs)
@@ -266,7 +271,7 @@ module _ (T R : Plain) (Xs : List Plain) where
         (WpFn 𝓤 𝓛.H C Λ code (vptr b o ∷ flat (types_at (slots 1 Xs) (κ, tt)) (values 1 (κ, tt) Xs xs)) (Post Q M 𝓤 𝓛 κ q b o γ h xs m))
 
     -- the function, whose code is `env #this`, meets its contract, where those that it calls meet theirs
-    pub walk-holds : Walked → {M : Type 1} {𝓤 : Ura M} (𝓛 : Logic 𝓤) (𝓜 : Model 𝓤 𝓛.H) (𝓡 : Running 𝓤 𝓛.H 𝓜) (env : Env) (#this : Name)
+    pub walk-holds : Walked → {M : Type 1} {𝓤 : Ura M} (𝓛 : Logic 𝓤) (𝓜 : Model 𝓤 𝓛.H) (𝓡 : Running 𝓤 𝓛.H 𝓜) (env : Env) (#this : Callee)
         → Closed 𝓤 𝓛.H (tables 𝓤 𝓛.H 𝓜 𝓡 env).C (tables 𝓤 𝓛.H 𝓜 𝓡 env).Λ #this code → Knows M 𝓤 𝓛 (tables 𝓤 𝓛.H 𝓜 𝓡 env).C → Triple 𝓤 (𝓡.run (env #this)) (Called-on Q M 𝓤 𝓛)
     unfolding tables_of
     walk-holds walk {M} {𝓤 = 𝓤} 𝓛 𝓜 𝓡 env #this unfolded known =

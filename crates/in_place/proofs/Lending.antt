@@ -8,14 +8,14 @@
 --     Step-ensures       what the step ensures; `Gives`: and what the function ensures follows
 --     lent, lent-with    the function meets its contract, where the step meets its own. `lent-with` has a further argument, and passes it on
 -- Assumes nothing.
-use mathlib.Core.Path.{◌≡◌, refl, sym, ◌∙◌, ap}
+use mathlib.Core.Path.{◌≡◌, refl, sym, ◌∙◌, ap, subst}
 use Prim.Native.Nat.{ℕ, zero, ◌+◌}
 use mathlib.Core.Option.{Option, none, some as Some-of}
 use mathlib.Core.List.{[], ◌∷◌, List}
 use seplogic.Ra.Ura.{Ura}
-use seplogic.Ra.TreeShare.{full_share}
+use base.Fraction.{full_share}
 use lib.ListN.{length}
-use mir.Syntax.{Name, Sym, Ty, ty_struct, ty_ref, Mutability, mut, Tys, tcons, tnil, named, erased, Opd, seq, assign, call, return, place, deref, field, rv_opd, addr_of, copy, Fn}
+use mir.Syntax.{Callee, Sym, Ty, ty_struct, ty_ref, Mutability, mut, Tys, tcons, tnil, named, erased, Opd, seq, assign, call, return, place, deref, field, rv_opd, addr_of, copy, Fn}
 use mir.Val.{Val, vptr, Vals, vstruct, vcons, vnil}
 use base.Logic.{SProp, ent, sep, ex, guard, emp, all as all_of, wand, all_e, apply∗, id⊢}
 use base.Fml.{GName, Lft, Fml, ftrue, fat, flft}
@@ -45,7 +45,7 @@ use denote.Triple.Call.{calls_at}
 use denote.Triple.Clauses.{Clauses, Ended, Lasts, ensured, lasts, closing}
 use denote.Triple.End.{all}
 use Rattle.in_place.proofs.InPlace.{Plain, Fits, Two, two, typed, out, back, slots, Values, values, AreAt, owning, value, places, owned-still, Cited, knows, Ensures, Called-on, exits, Walked, walk-holds}
-use Rattle.in_place.proofs.Lent.{Ref, after, last, Kept, lent_at, lend, comes_back}
+use Rattle.in_place.proofs.Lent.{Ref, To, after, last, Kept, lent_at, now_of, now-lent, lend, comes_back}
 
 -- ---- the record, and the function
 abbrev laid_out : (K A B C D : Plain) → Tys
@@ -163,10 +163,12 @@ module _ (z : Lends) (Xs : List Plain) where
   open parts use {control, first, second, third, fourth, joined}
 
   -- the function's MIR: the step is passed the control, the four references and `opds`
-  abbrev code : List Opd → Name → Fn
+  abbrev code : List Opd → Callee → Fn
   code opds #step = record {
     lifetimes = 1;
     outlives = [];
+    ty_params = [];
+    givens = 0;
     params = 1 + length Xs;
     locals = value R.mir ∷ value (ty_ref (named 0) mut (pointee T.row.written)) ∷ places Xs (value (two gave) ∷ value K.mir ∷ value (ty_ref erased by-A (pointee A.row.written)) ∷ value (ty_ref erased by-B (pointee B.row.written)) ∷ value (ty_ref erased by-C (pointee C.row.written)) ∷ value (ty_ref erased by-D (pointee D.row.written)) ∷ []);
     body = seq (assign (place (3 + length Xs) []) (rv_opd (copy (place 1 (deref (struct z) ∷ field 0 ∷ [])))))
@@ -187,14 +189,14 @@ module _ (z : Lends) (Xs : List Plain) where
       outlives = [];
       params = plain (λ _. K.row) ∷ plain (λ κs. Ref by-A (named 0) κs.0 A.row) ∷ plain (λ κs. Ref by-B (named 1) κs.1.0 B.row)
           ∷ plain (λ κs. Ref by-C (named 2) κs.1.1.0 C.row) ∷ plain (λ κs. Ref by-D (named 3) κs.1.1.1.0 D.row) ∷ slots 4 Xs;
-      returned = plain (λ _. U.row);
+      result = plain (λ _. U.row);
     };
     kept = (yes, (yes, (yes, (yes, (yes, all yes (slots 4 Xs))))));
   }
 
   -- what the step leaves: its result, and the four fields
   pub record Left : Type 0 where
-    pub returned : U.row.Denot
+    pub result : U.row.Denot
     pub a : A.row.Denot
     pub b : B.row.Denot
     pub c : C.row.Denot
@@ -220,25 +222,25 @@ module _ (z : Lends) (Xs : List Plain) where
     step-says κs a = record {
       ghost = Unit {0};
       requires = λ _. emp 𝓤;
-      ensures = λ _ r e. fact 𝓤 (S κs (joined a.0 a.1.0.now a.1.1.0.now a.1.1.1.0.now a.1.1.1.1.0.now) a.1.1.1.1.1
-          (record { returned = r; a = after A.row by-A (named 0) a.1.0 e.1.0; b = after B.row by-B (named 1) a.1.1.0 e.1.1.0; c = after C.row by-C (named 2) a.1.1.1.0 e.1.1.1.0; d = after D.row by-D (named 3) a.1.1.1.1.0 e.1.1.1.1.0 }));
+      ensures = λ _ r e. fact 𝓤 (S κs (joined a.0 (now_of by-A a.1.0) (now_of by-B a.1.1.0) (now_of by-C a.1.1.1.0) (now_of by-D a.1.1.1.1.0)) a.1.1.1.1.1
+          (record { result = r; a = after A.row by-A (named 0) κs.0 a.1.0 e.1.0; b = after B.row by-B (named 1) κs.1.0 a.1.1.0 e.1.1.0; c = after C.row by-C (named 2) κs.1.1.0 a.1.1.1.0 e.1.1.1.0; d = after D.row by-D (named 3) κs.1.1.1.0 a.1.1.1.1.0 e.1.1.1.1.0 }));
     }
 
     abbrev Called : Contract 𝓤
     Called = triple_of 𝓛 called.signature (closing 𝓛 called step-says)
 
     module _ (κ : Lft) (p o : ℕ) (h : T.row.Denot) (xs : Values 1 (κ, tt) Xs) where
-      abbrev ref-A : Names → MutBor A.row.Denot
-      ref-A n = lent_at p (o + off (τs z) 1) n.γA (first h)
+      abbrev ref-A : Names → To by-A A.row.Denot
+      ref-A n = lent_at by-A p (o + off (τs z) 1) n.γA (first h)
 
-      abbrev ref-B : Names → MutBor B.row.Denot
-      ref-B n = lent_at p (o + off (τs z) 2) n.γB (second h)
+      abbrev ref-B : Names → To by-B B.row.Denot
+      ref-B n = lent_at by-B p (o + off (τs z) 2) n.γB (second h)
 
-      abbrev ref-C : Names → MutBor C.row.Denot
-      ref-C n = lent_at p (o + off (τs z) 3) n.γC (third h)
+      abbrev ref-C : Names → To by-C C.row.Denot
+      ref-C n = lent_at by-C p (o + off (τs z) 3) n.γC (third h)
 
-      abbrev ref-D : Names → MutBor D.row.Denot
-      ref-D n = lent_at p (o + off (τs z) 4) n.γD (fourth h)
+      abbrev ref-D : Names → To by-D D.row.Denot
+      ref-D n = lent_at by-D p (o + off (τs z) 4) n.γD (fourth h)
 
       abbrev further : (n : Names) → Values 4 (lfts n) Xs
       further n = pass (κ, tt) (lfts n) Xs xs
@@ -248,11 +250,18 @@ module _ (z : Lends) (Xs : List Plain) where
 
       -- what the step is passed, as its triple binds it
       abbrev to_step : Names → Called.Ghost
-      to_step n = ((lfts n, (full_share, (full_share, (full_share, (full_share, tt)))), tt, args n, (K.val (control h) ∷ [], (mut_vals (ref-A n), (mut_vals (ref-B n), (mut_vals (ref-C n), (mut_vals (ref-D n), values 4 (lfts n) Xs (further n))))))), tt)
+      to_step n = ((lfts n, (full_share, (full_share, (full_share, (full_share, tt)))), tt, args n, (K.val (control h) ∷ [], (vptr p (o + off (τs z) 1) ∷ [], (vptr p (o + off (τs z) 2) ∷ [], (vptr p (o + off (τs z) 3) ∷ [], (vptr p (o + off (τs z) 4) ∷ [], values 4 (lfts n) Xs (further n))))))), tt)
+
+      -- the record, as the step is shown it: it is the record
+      abbrev shown : Names → T.row.Denot
+      shown n = joined (control h) (now_of by-A (ref-A n)) (now_of by-B (ref-B n)) (now_of by-C (ref-C n)) (now_of by-D (ref-D n))
+
+      is_shown : (n : Names) → shown n ≡ joined (control h) (first h) (second h) (third h) (fourth h)
+      is_shown n i = joined (control h) (now-lent by-A p (o + off (τs z) 1) n.γA (first h) i) (now-lent by-B p (o + off (τs z) 2) n.γB (second h) i) (now-lent by-C p (o + off (τs z) 3) n.γC (third h) i) (now-lent by-D p (o + off (τs z) 4) n.γD (fourth h) i)
 
       -- what the function has while the fields are lent, and what the call gives back: the tokens
       abbrev Lender : Names → Item 𝓤
-      Lender n = part z 𝓛 p o K 0 (control h) ⊛ (‵ (Kept A.row by-A (n.κA ∷ []) (ref-A n)) ⊛ (‵ (Kept B.row by-B (n.κB ∷ []) (ref-B n)) ⊛ (‵ (Kept C.row by-C (n.κC ∷ []) (ref-C n)) ⊛ (‵ (Kept D.row by-D (n.κD ∷ []) (ref-D n)) ⊛ (raw (Way z 𝓛 p o))))))
+      Lender n = part z 𝓛 p o K 0 (control h) ⊛ (‵ (Kept A.row by-A (n.κA ∷ []) p (o + off (τs z) 1) n.γA (first h)) ⊛ (‵ (Kept B.row by-B (n.κB ∷ []) p (o + off (τs z) 2) n.γB (second h)) ⊛ (‵ (Kept C.row by-C (n.κC ∷ []) p (o + off (τs z) 3) n.γC (third h)) ⊛ (‵ (Kept D.row by-D (n.κD ∷ []) p (o + off (τs z) 4) n.γD (fourth h)) ⊛ (raw (Way z 𝓛 p o))))))
 
       abbrev Tokens : Names → Item 𝓤
       Tokens n = ‵ (flft (n.κA ∷ []) full_share) ⊛ (‵ (flft (n.κB ∷ []) full_share) ⊛ (‵ (flft (n.κC ∷ []) full_share) ⊛ (‵ (flft (n.κD ∷ []) full_share) ⊛ ‵ ftrue)))
@@ -281,26 +290,26 @@ module _ (z : Lends) (Xs : List Plain) where
       returned n v =
           qed 𝓛 (raw (Called.post (to_step n) v) ∷ Lender n ∷ []) ∵ updating ! $
           use1 𝓛 (later (some (λ (r : U.row.Denot). (Tokens n ⊛ ‵ (U.row.own_val r (v ∷ []))) ⊛ raw (ensured 𝓛 called step-says (lfts n) (args n) tt r)))) (id⊢ 𝓤 _) $ await ! tt $ pick ! (λ r.
-          split ! $ move ! (1 ∷ []) $ use1 𝓛 (some (λ (ws : Lasts called (lfts n) (args n)). ‵ (lasts called (lfts n) (args n) ws) ⊛ raw (fact 𝓤 (S (lfts n) (joined (control h) (first h) (second h) (third h) (fourth h)) (further n) (record { returned = r; a = last A.row by-A (named 0) (ref-A n) ws.1.0; b = last B.row by-B (named 1) (ref-B n) ws.1.1.0; c = last C.row by-C (named 2) (ref-C n) ws.1.1.1.0; d = last D.row by-D (named 3) (ref-D n) ws.1.1.1.1.0 }))))) (id⊢ 𝓤 _) $ pick ! (λ ws.
-          let y : Left = record { returned = r; a = last A.row by-A (named 0) (ref-A n) ws.1.0; b = last B.row by-B (named 1) (ref-B n) ws.1.1.0; c = last C.row by-C (named 2) (ref-C n) ws.1.1.1.0; d = last D.row by-D (named 3) (ref-D n) ws.1.1.1.1.0 } in
-          split ! $ move ! (1 ∷ []) $ heard ! (S (lfts n) (joined (control h) (first h) (second h) (third h) (fourth h)) (further n) y) (λ e. move ! (1 ∷ []) $ split ! $ move ! (1 ∷ []) $ peeks ! U.row (Is U.row) (shows 𝓛 U.row) r (v ∷ []) (λ is. drop ! $
+          split ! $ move ! (1 ∷ []) $ use1 𝓛 (some (λ (ws : Lasts called (lfts n) (args n)). ‵ (lasts called (lfts n) (args n) ws) ⊛ raw (fact 𝓤 (S (lfts n) (shown n) (further n) (record { result = r; a = last A.row by-A (named 0) (n.κA ∷ []) (ref-A n) ws.1.0; b = last B.row by-B (named 1) (n.κB ∷ []) (ref-B n) ws.1.1.0; c = last C.row by-C (named 2) (n.κC ∷ []) (ref-C n) ws.1.1.1.0; d = last D.row by-D (named 3) (n.κD ∷ []) (ref-D n) ws.1.1.1.1.0 }))))) (id⊢ 𝓤 _) $ pick ! (λ ws.
+          let y : Left = record { result = r; a = last A.row by-A (named 0) (n.κA ∷ []) (ref-A n) ws.1.0; b = last B.row by-B (named 1) (n.κB ∷ []) (ref-B n) ws.1.1.0; c = last C.row by-C (named 2) (n.κC ∷ []) (ref-C n) ws.1.1.1.0; d = last D.row by-D (named 3) (n.κD ∷ []) (ref-D n) ws.1.1.1.1.0 } in
+          split ! $ move ! (1 ∷ []) $ heard ! (S (lfts n) (shown n) (further n) y) (λ e. move ! (1 ∷ []) $ split ! $ move ! (1 ∷ []) $ peeks ! U.row (Is U.row) (shows 𝓛 U.row) r (v ∷ []) (λ is. drop ! $
           -- the lifetimes are ended, and the fields come back
           split ! $ move ! (1 ∷ []) $ split ! $ move ! (1 ∷ []) $ split ! $ move ! (1 ∷ []) $ split ! $ move ! (1 ∷ []) $ drop ! $ move ! (4 ∷ []) $ fsplit ! $ drop ! $ fsplit ! $ move ! (1 ∷ []) $ fsplit ! $ move ! (1 ∷ []) $ fsplit ! $ move ! (1 ∷ []) $ fsplit ! $ move ! (1 ∷ []) $ drop ! $
           move ! (8 ∷ []) $ split ! $ move ! (1 ∷ []) $ split ! $ move ! (1 ∷ []) $ split ! $ move ! (1 ∷ []) $ split ! $ move ! (1 ∷ []) $ split ! $
-          move ! (13 ∷ 4 ∷ 9 ∷ []) $ comes_back ! tt A by-A (named 0) (ref-A n) ws.1.0 (λ fits-A.
-          move ! (11 ∷ 4 ∷ 8 ∷ []) $ comes_back ! tt B by-B (named 1) (ref-B n) ws.1.1.0 (λ fits-B.
-          move ! (9 ∷ 4 ∷ 7 ∷ []) $ comes_back ! tt C by-C (named 2) (ref-C n) ws.1.1.1.0 (λ fits-C.
-          move ! (7 ∷ 3 ∷ 6 ∷ []) $ comes_back ! tt D by-D (named 3) (ref-D n) ws.1.1.1.1.0 (λ fits-D.
+          move ! (13 ∷ 4 ∷ 9 ∷ []) $ comes_back ! tt A by-A (named 0) p (o + off (τs z) 1) n.γA (first h) ws.1.0 (λ fits-A.
+          move ! (11 ∷ 4 ∷ 8 ∷ []) $ comes_back ! tt B by-B (named 1) p (o + off (τs z) 2) n.γB (second h) ws.1.1.0 (λ fits-B.
+          move ! (9 ∷ 4 ∷ 7 ∷ []) $ comes_back ! tt C by-C (named 2) p (o + off (τs z) 3) n.γC (third h) ws.1.1.1.0 (λ fits-C.
+          move ! (7 ∷ 3 ∷ 6 ∷ []) $ comes_back ! tt D by-D (named 3) p (o + off (τs z) 4) n.γD (fourth h) ws.1.1.1.1.0 (λ fits-D.
           move ! (0 ∷ 4 ∷ []) $ join ! $ move ! (1 ∷ 0 ∷ []) $ join ! $ move ! (1 ∷ 0 ∷ []) $ join ! $ move ! (1 ∷ 0 ∷ []) $ join ! $ move ! (1 ∷ 0 ∷ []) $ join ! $
-          use1 𝓛 (‵ (Cell z 𝓛 p o (control h) y.a y.b y.c y.d)) (together z 𝓛 p o (control h) y.a y.b y.c y.d) $ at_once ! $ show ! (λ (y : Left). guard 𝓤 (Came n v y) (sem 𝓛 (Cell z 𝓛 p o (control h) y.a y.b y.c y.d))) y $ check ! (e, (is, (fits-A, (fits-B, (fits-C, fits-D))))) $ done !))))))))
+          use1 𝓛 (‵ (Cell z 𝓛 p o (control h) y.a y.b y.c y.d)) (together z 𝓛 p o (control h) y.a y.b y.c y.d) $ at_once ! $ show ! (λ (y : Left). guard 𝓤 (Came n v y) (sem 𝓛 (Cell z 𝓛 p o (control h) y.a y.b y.c y.d))) y $ check ! (subst (λ (t : T.row.Denot). S (lfts n) t (further n) y) (is_shown n) e, (is, (fits-A, (fits-B, (fits-C, fits-D))))) $ done !))))))))
 
   -- that the step meets its contract
-  abbrev Knows : Step-ensures → Name → (M : Type 1) (𝓤 : Ura M) (𝓛 : Logic 𝓤) → Calls 𝓤 𝓛.H → Type 1
+  abbrev Knows : Step-ensures → Callee → (M : Type 1) (𝓤 : Ura M) (𝓛 : Logic 𝓤) → Calls 𝓤 𝓛.H → Type 1
   Knows S #step M 𝓤 𝓛 𝓒 = Triple 𝓤 (𝓒 #step) (Called S M 𝓤 𝓛)
 
   -- the function, whose code is `env #this`, meets its contract, where the step meets its own
   abbrev Met : Ensures T R Xs → Step-ensures → List Opd → {M : Type 1} → Ura M → Type 2
-  Met Q S opds {M} 𝓤 = (𝓛 : Logic 𝓤) (𝓜 : Model 𝓤 𝓛.H) (𝓡 : Running 𝓤 𝓛.H 𝓜) (env : Env) (#this : Name) (step : Cited 𝓤 𝓛.H 𝓜 𝓡 env (Called S M 𝓤 𝓛))
+  Met Q S opds {M} 𝓤 = (𝓛 : Logic 𝓤) (𝓜 : Model 𝓤 𝓛.H) (𝓡 : Running 𝓤 𝓛.H 𝓜) (env : Env) (#this : Callee) (step : Cited 𝓤 𝓛.H 𝓜 𝓡 env (Called S M 𝓤 𝓛))
       → Closed 𝓤 𝓛.H (tables 𝓤 𝓛.H 𝓜 𝓡 env).C (tables 𝓤 𝓛.H 𝓜 𝓡 env).Λ #this (code opds step.name) → Triple 𝓤 (𝓡.run (env #this)) (Called-on T R Xs Q M 𝓤 𝓛)
 
 -- ---- the walks
@@ -310,7 +319,7 @@ module _ (z : Lends) where
   open parts use {control, first, second, third, fourth, joined}
 
   module _ (Q : Ensures T R []) (S : Step-ensures z []) (gives : Gives z [] Q S) where
-    lent-walk : (#step : Name) → Walked T R [] Q owned-still (Knows z [] S #step) (code z [] [] #step)
+    lent-walk : (#step : Callee) → Walked T R [] Q owned-still (Knows z [] S #step) (code z [] [] #step)
     lent-walk #step M 𝓤 𝓛 κ q p o γ h xs are 𝓒 Λ fm known =
         qed 𝓛 ((‵ (flft κ q) ⊛ ‵ ftrue) ∷ ‵ (owns (MutRef (named 0) κ T.row ∷ []) (record { ref_ptr = (p, o); ghost_name = γ; now = h }, xs) (vptr p o ∷ [], values 1 (κ, tt) [] xs)) ∷ []) ∵ split ! $ move ! (2 ∷ []) $ fsplit ! $ fsplit3 ! $ drop ! $ move ! (0 ∷ 1 ∷ 3 ∷ []) $
         enter ! 𝓒 Λ (code z [] [] #step) _ _ $ alloc1 ! (λ l₀. alloc1 ! (λ l₁. alloc1 ! (λ l₂. alloc1 ! (λ l₃. alloc1 ! (λ l₄. alloc1 ! (λ l₅. alloc1 ! (λ l₆. alloc1 ! (λ l₇. alloc0 ! $ params1 ! $ pass1 ! (init ! 12 refl (tt, tt)) $ pass0 ! $
@@ -344,7 +353,7 @@ module _ (z : Lends) (X : Plain) where
   open parts use {control, first, second, third, fourth, joined}
 
   module _ (Q : Ensures T R (X ∷ [])) (S : Step-ensures z (X ∷ [])) (gives : Gives z (X ∷ []) Q S) where
-    lent-with-walk : (#step : Name) → Walked T R (X ∷ []) Q owned-still (Knows z (X ∷ []) S #step) (code z (X ∷ []) (copy (place 2 []) ∷ []) #step)
+    lent-with-walk : (#step : Callee) → Walked T R (X ∷ []) Q owned-still (Knows z (X ∷ []) S #step) (code z (X ∷ []) (copy (place 2 []) ∷ []) #step)
     lent-with-walk #step M 𝓤 𝓛 κ q p o γ h xs are 𝓒 Λ fm known =
         qed 𝓛 ((‵ (flft κ q) ⊛ ‵ ftrue) ∷ ‵ (owns (MutRef (named 0) κ T.row ∷ X.row ∷ []) (record { ref_ptr = (p, o); ghost_name = γ; now = h }, xs) (vptr p o ∷ [], values 1 (κ, tt) (X ∷ []) xs)) ∷ []) ∵ split ! $ move ! (2 ∷ []) $ fsplit ! $ fsplit3 ! $ drop ! $ move ! (0 ∷ 1 ∷ 3 ∷ []) $
         enter ! 𝓒 Λ (code z (X ∷ []) (copy (place 2 []) ∷ []) #step) _ _ $ alloc1 ! (λ l₀. alloc1 ! (λ l₁. alloc1 ! (λ l₂. alloc1 ! (λ l₃. alloc1 ! (λ l₄. alloc1 ! (λ l₅. alloc1 ! (λ l₆. alloc1 ! (λ l₇. alloc1 ! (λ l₈. alloc0 ! $ params1 ! $ pass1 ! (init ! 14 refl (tt, tt)) $ pass1 ! (init ! 12 refl (typed 𝓛 X X.mir X.one xs.0 _ are.0)) $ pass0 ! $

@@ -11,12 +11,12 @@ use Prim.Native.Nat.{ℕ}
 use mathlib.Core.Bool.{Bool, true, false, not}
 use mathlib.Core.List.{[], ◌∷◌, List}
 use seplogic.Ra.Ura.{Ura}
-use seplogic.Ra.TreeShare.{full_share}
+use base.Fraction.{full_share}
 use lib.Dec.{T}
-use mir.Syntax.{Name, ty_ref, mut, named, erased, Body, seq, assign, call, cond, skip, return, place, deref, addr_of, copy, Fn}
+use mir.Syntax.{Callee, ty_ref, mut, named, erased, Body, seq, assign, call, cond, skip, return, place, deref, addr_of, copy, Fn}
 use mir.Val.{Val, vptr}
 use base.Logic.{ent, sep, ex, guard, emp, ex_e, snd∗, id⊢}
-use base.Fml.{GName, Lft, Share, ftrue, fat, flft, fres}
+use base.Fml.{GName, Lft, Share, ftrue, fat, flft}
 use prog.Model.{Model}
 use prog.Routine.{Env}
 use prog.Wp.{Env as Locals, Calls, Closed}
@@ -39,7 +39,7 @@ use denote.Triple.Statement.{Contract, Triple}
 use denote.Triple.Call.{calls_at}
 use denote.Triple.Clauses.{Clauses, Ended, Lasts, ensured, lasts, closing}
 use denote.Triple.End.{all}
-use Rattle.in_place.proofs.InPlace.{Plain, Fits, fits, of-builtin, typed, slots, Values, values, AreAt, owning, value, passed_on, Cited, knows, this, entry, Ensures, says, Called-on, bound, Post, exits, Walked, walk-holds}
+use Rattle.in_place.proofs.InPlace.{Plain, Fits, fits, of-builtin, typed, slots, Values, values, AreAt, owning, value, passed_on, had, Cited, knows, this, entry, Ensures, says, Called-on, bound, Post, exits, Walked, walk-holds}
 
 abbrev pub boolean : Plain
 boolean = of-builtin bool-field bool-laws bool-plain bool-copy refl
@@ -50,7 +50,7 @@ module _ (X Y : Plain) where
   Reads = X.row.Denot → Y.row.Denot → Type 0
 
   abbrev of_one : Ended
-  of_one = record { signature = record { lifetimes = 0; outlives = []; params = slots 0 (X ∷ []); returned = plain (λ _. Y.row) }; kept = all yes (slots 0 (X ∷ [])) }
+  of_one = record { signature = record { lifetimes = 0; outlives = []; params = slots 0 (X ∷ []); result = plain (λ _. Y.row) }; kept = all yes (slots 0 (X ∷ [])) }
 
   module _ (P : Reads) (M : Type 1) (𝓤 : Ura M) (𝓛 : Logic 𝓤) where
     open 𝓛 use {H}
@@ -105,13 +105,13 @@ module _ (T R : Plain) (Xs : List Plain) where
     abbrev Known : Val → Gave → Type 0
     Known v y = Q (κ, tt) h xs y.answer y.after × Is R.row y.answer (v ∷ [])
 
-    gave : (v : Val) → ent 𝓤 ((Called-on T R Xs Q M 𝓤 𝓛).post at_call v) (H.⇛ (ex 𝓤 (λ (y : Gave). guard 𝓤 (Known v y) (sep 𝓤 (sem 𝓛 (fres γ (T.row.coded.code y.after))) (𝓛.A.lft κ q)))))
+    gave : (v : Val) → ent 𝓤 ((Called-on T R Xs Q M 𝓤 𝓛).post at_call v) (H.⇛ (ex 𝓤 (λ (y : Gave). guard 𝓤 (Known v y) (sep 𝓤 (sem 𝓛 (had T passed_on κ p o γ h y.after)) (𝓛.A.lft κ q)))))
     gave v =
         qed 𝓛 (raw ((Called-on T R Xs Q M 𝓤 𝓛).post at_call v) ∷ []) ∵ updating ! $
         use1 𝓛 (later (some (λ (r : R.row.Denot). ((‵ (flft κ q) ⊛ ‵ ftrue) ⊛ ‵ (R.row.own_val r (v ∷ []))) ⊛ raw (ensured 𝓛 (this T R Xs) (says T R Xs Q M 𝓤 𝓛) (κ, tt) (entry T R Xs κ p o γ h xs) tt r)))) (id⊢ 𝓤 _) $ await ! tt $ pick ! (λ r. split ! $ move ! (1 ∷ []) $
         use1 𝓛 (some (λ (ws : Lasts (this T R Xs) (κ, tt) (entry T R Xs κ p o γ h xs)). ‵ (lasts (this T R Xs) (κ, tt) (entry T R Xs κ p o γ h xs) ws) ⊛ raw (fact 𝓤 (Q (κ, tt) h xs r ws.0)))) (id⊢ 𝓤 _) $ pick ! (λ ws. split ! $ move ! (1 ∷ []) $
         heard ! (Q (κ, tt) h xs r ws.0) (λ e. fsplit ! $ move ! (2 ∷ []) $ split ! $ move ! (1 ∷ []) $ peeks ! R.row (Is R.row) (shows 𝓛 R.row) r (v ∷ []) (λ is. drop ! $ split ! $
-        at_once ! $ show ! (λ (y : Gave). guard 𝓤 (Known v y) (sep 𝓤 (sem 𝓛 (fres γ (T.row.coded.code y.after))) (𝓛.A.lft κ q))) (record { answer = r; after = ws.0 }) $ check ! (e, is) $ keep ! (2 ∷ 0 ∷ []) $ done !))))
+        at_once ! $ show ! (λ (y : Gave). guard 𝓤 (Known v y) (sep 𝓤 (sem 𝓛 (had T passed_on κ p o γ h y.after)) (𝓛.A.lft κ q))) (record { answer = r; after = ws.0 }) $ check ! (e, is) $ keep ! (2 ∷ 0 ∷ []) $ done !))))
 
 -- ---- the walks
 -- fn(_1: &mut T) -> R { _3 = &mut *_1; _2 = call(_3); _0 = tell(_2); return }
@@ -120,11 +120,13 @@ module _ (T A R : Plain) (Q : Ensures T R []) (S : Ensures T A []) (P : Reads A 
   abbrev pub Passes : Type 0
   Passes = (κ : Lft) (h : T.row.Denot) (a : A.row.Denot) (w : T.row.Denot) (r : R.row.Denot) → S (κ, tt) h tt a w → P a r → Q (κ, tt) h tt r w
 
-  module _ (#call #tell : Name) where
+  module _ (#call #tell : Callee) where
     abbrev passing : Fn
     passing = record {
       lifetimes = 1;
       outlives = [];
+      ty_params = [];
+      givens = 0;
       params = 1;
       locals = value R.mir ∷ value (ty_ref (named 0) mut (pointee T.row.written)) ∷ value A.mir ∷ value (ty_ref erased mut (pointee T.row.written)) ∷ [];
       body = seq (assign (place 3 []) (addr_of (place 1 (deref T.mir ∷ [])))) (seq (call #call (copy (place 3 []) ∷ []) (place 2 [])) (seq (call #tell (copy (place 2 []) ∷ []) (place 0 [])) return));
@@ -141,7 +143,7 @@ module _ (T A R : Plain) (Q : Ensures T R []) (S : Ensures T A []) (P : Reads A 
         assigns ! (addr ! (from ! (hop ! (look ! 4 refl) (stop !)))) (from ! (stop !)) (init ! 0 refl (tt, tt)) $ move ! (8 ∷ 9 ∷ []) $
         use2 𝓛 (raw ((Called-on T A [] S M 𝓤 𝓛).pre (at_call T A [] S M 𝓤 𝓛 κ q p o γ h xs))) (hands-over T A [] S M 𝓤 𝓛 κ q p o γ h xs are) $
         calls_at ! fm (Called-on T A [] S M 𝓤 𝓛) known.0 (at_call T A [] S M 𝓤 𝓛 κ q p o γ h xs) (and_then ! (load ! (from ! (stop !)) (look ! 1 refl)) (no_more !)) (λ v.
-        use1 𝓛 (later (some (λ (y : Gave T A []). given (Known T A [] S M 𝓤 𝓛 κ q p o γ h xs v y) (‵ (fres γ (T.row.coded.code y.after)) ⊛ ‵ (flft κ q))))) (gave T A [] S M 𝓤 𝓛 κ q p o γ h xs v) $ await ! tt $ pick ! (λ y. learn ! (λ e. split ! $
+        use1 𝓛 (later (some (λ (y : Gave T A []). given (Known T A [] S M 𝓤 𝓛 κ q p o γ h xs v y) (‵ (had T passed_on κ p o γ h y.after) ⊛ ‵ (flft κ q))))) (gave T A [] S M 𝓤 𝓛 κ q p o γ h xs v) $ await ! tt $ pick ! (λ y. learn ! (λ e. split ! $
         -- [the last record; the token; _3; …; room for _2; …; _1; …; room for _0; …]
         land ! (from ! (stop !)) (init ! 4 refl (typed 𝓛 A A.mir A.one y.answer v e.1)) $ rewrite ! 4 (λ (u : Val). ‵ (fat full_share A.mir l₂ 0 u)) (ap only (A.tells y.answer _ e.1)) refl $
         use0 𝓛 (raw ((Reading A R P M 𝓤 𝓛).pre (to_read A R P M 𝓤 𝓛 y.answer))) (goes A R P M 𝓤 𝓛 y.answer (fits A y.answer _ e.1)) $
@@ -151,7 +153,7 @@ module _ (T A R : Plain) (Q : Ensures T R []) (S : Ensures T A []) (P : Reads A 
         returns ! (look ! 8 refl) $ forget ! 2 refl $ forget ! 4 refl $ forget ! 6 refl $ forget ! 8 refl $ move ! (8 ∷ 9 ∷ []) $ free1 ! $ move ! (6 ∷ 7 ∷ []) $ free1 ! $ move ! (4 ∷ 5 ∷ []) $ free1 ! $ move ! (2 ∷ 3 ∷ []) $ free1 ! $ free0 ! $
         by ! (exits T R [] Q M 𝓤 𝓛 κ q p o γ h xs passed_on are r y.after (passes κ h y.answer y.after r e.0 f.0) (fits R r _ f.1))))))))))))
 
-  pub passed : Passes → {M : Type 1} {𝓤 : Ura M} (𝓛 : Logic 𝓤) (𝓜 : Model 𝓤 𝓛.H) (𝓡 : Running 𝓤 𝓛.H 𝓜) (env : Env) (#this : Name)
+  pub passed : Passes → {M : Type 1} {𝓤 : Ura M} (𝓛 : Logic 𝓤) (𝓜 : Model 𝓤 𝓛.H) (𝓡 : Running 𝓤 𝓛.H 𝓜) (env : Env) (#this : Callee)
       (calls : Cited 𝓤 𝓛.H 𝓜 𝓡 env (Called-on T A [] S M 𝓤 𝓛)) (tells : Cited 𝓤 𝓛.H 𝓜 𝓡 env (Reading A R P M 𝓤 𝓛))
       → Closed 𝓤 𝓛.H (tables 𝓤 𝓛.H 𝓜 𝓡 env).C (tables 𝓤 𝓛.H 𝓜 𝓡 env).Λ #this (passing calls.name tells.name) → Triple 𝓤 (𝓡.run (env #this)) (Called-on T R [] Q M 𝓤 𝓛)
   passed passes 𝓛 𝓜 𝓡 env #this calls tells unfolded =
@@ -163,11 +165,13 @@ module _ (T X Y A R : Plain) (Q : Ensures T R (X ∷ [])) (I : Reads X Y) (S : E
   abbrev pub Passes-with : Type 0
   Passes-with = (κ : Lft) (h : T.row.Denot) (x : X.row.Denot) (y : Y.row.Denot) (a : A.row.Denot) (w : T.row.Denot) (r : R.row.Denot) → I x y → S (κ, tt) h (y, tt) a w → P a r → Q (κ, tt) h (x, tt) r w
 
-  module _ (#read #call #tell : Name) where
+  module _ (#read #call #tell : Callee) where
     abbrev passing-with : Fn
     passing-with = record {
       lifetimes = 1;
       outlives = [];
+      ty_params = [];
+      givens = 0;
       params = 2;
       locals = value R.mir ∷ value (ty_ref (named 0) mut (pointee T.row.written)) ∷ value X.mir ∷ value Y.mir ∷ value A.mir ∷ value (ty_ref erased mut (pointee T.row.written)) ∷ [];
       body = seq (call #read (copy (place 2 []) ∷ []) (place 3 []))
@@ -191,7 +195,7 @@ module _ (T X Y A R : Plain) (Q : Ensures T R (X ∷ [])) (I : Reads X Y) (S : E
         assigns ! (addr ! (from ! (hop ! (look ! 8 refl) (stop !)))) (from ! (stop !)) (init ! 0 refl (tt, tt)) $ move ! (12 ∷ 13 ∷ []) $
         use2 𝓛 (raw ((Called-on T A (Y ∷ []) S M 𝓤 𝓛).pre (at_call T A (Y ∷ []) S M 𝓤 𝓛 κ q p o γ h (y, tt)))) (hands-over T A (Y ∷ []) S M 𝓤 𝓛 κ q p o γ h (y, tt) (fits Y y _ d.1, tt)) $
         calls_at ! fm (Called-on T A (Y ∷ []) S M 𝓤 𝓛) known.1.0 (at_call T A (Y ∷ []) S M 𝓤 𝓛 κ q p o γ h (y, tt)) (and_then ! (load ! (from ! (stop !)) (look ! 1 refl)) (and_then ! (load ! (from ! (stop !)) (look ! 5 refl)) (no_more !))) (λ v.
-        use1 𝓛 (later (some (λ (z : Gave T A (Y ∷ [])). given (Known T A (Y ∷ []) S M 𝓤 𝓛 κ q p o γ h (y, tt) v z) (‵ (fres γ (T.row.coded.code z.after)) ⊛ ‵ (flft κ q))))) (gave T A (Y ∷ []) S M 𝓤 𝓛 κ q p o γ h (y, tt) v) $ await ! tt $ pick ! (λ z. learn ! (λ e. split ! $
+        use1 𝓛 (later (some (λ (z : Gave T A (Y ∷ [])). given (Known T A (Y ∷ []) S M 𝓤 𝓛 κ q p o γ h (y, tt) v z) (‵ (had T passed_on κ p o γ h z.after) ⊛ ‵ (flft κ q))))) (gave T A (Y ∷ []) S M 𝓤 𝓛 κ q p o γ h (y, tt) v) $ await ! tt $ pick ! (λ z. learn ! (λ e. split ! $
         -- [the last record; the token; _5; …; room for _4; …; _3; …; _2; …; _1; …; room for _0; …]
         land ! (from ! (stop !)) (init ! 4 refl (typed 𝓛 A A.mir A.one z.answer v e.1)) $ rewrite ! 4 (λ (u : Val). ‵ (fat full_share A.mir l₄ 0 u)) (ap only (A.tells z.answer _ e.1)) refl $
         use0 𝓛 (raw ((Reading A R P M 𝓤 𝓛).pre (to_read A R P M 𝓤 𝓛 z.answer))) (goes A R P M 𝓤 𝓛 z.answer (fits A z.answer _ e.1)) $
@@ -202,7 +206,7 @@ module _ (T X Y A R : Plain) (Q : Ensures T R (X ∷ [])) (I : Reads X Y) (S : E
         move ! (12 ∷ 13 ∷ []) $ free1 ! $ move ! (10 ∷ 11 ∷ []) $ free1 ! $ move ! (8 ∷ 9 ∷ []) $ free1 ! $ move ! (6 ∷ 7 ∷ []) $ free1 ! $ move ! (4 ∷ 5 ∷ []) $ free1 ! $ move ! (2 ∷ 3 ∷ []) $ free1 ! $ free0 ! $
         by ! (exits T R (X ∷ []) Q M 𝓤 𝓛 κ q p o γ h xs passed_on are r z.after (passes κ h xs.0 y z.answer z.after r d.0 e.0 f.0) (fits R r _ f.1)))))))))))))))))
 
-  pub passed-with : Passes-with → {M : Type 1} {𝓤 : Ura M} (𝓛 : Logic 𝓤) (𝓜 : Model 𝓤 𝓛.H) (𝓡 : Running 𝓤 𝓛.H 𝓜) (env : Env) (#this : Name)
+  pub passed-with : Passes-with → {M : Type 1} {𝓤 : Ura M} (𝓛 : Logic 𝓤) (𝓜 : Model 𝓤 𝓛.H) (𝓡 : Running 𝓤 𝓛.H 𝓜) (env : Env) (#this : Callee)
       (reads : Cited 𝓤 𝓛.H 𝓜 𝓡 env (Reading X Y I M 𝓤 𝓛)) (calls : Cited 𝓤 𝓛.H 𝓜 𝓡 env (Called-on T A (Y ∷ []) S M 𝓤 𝓛)) (tells : Cited 𝓤 𝓛.H 𝓜 𝓡 env (Reading A R P M 𝓤 𝓛))
       → Closed 𝓤 𝓛.H (tables 𝓤 𝓛.H 𝓜 𝓡 env).C (tables 𝓤 𝓛.H 𝓜 𝓡 env).Λ #this (passing-with reads.name calls.name tells.name) → Triple 𝓤 (𝓡.run (env #this)) (Called-on T R (X ∷ []) Q M 𝓤 𝓛)
   passed-with passes 𝓛 𝓜 𝓡 env #this reads calls tells unfolded =
@@ -225,7 +229,7 @@ module _ (T X R : Plain) (Q : Ensures T R (X ∷ [])) (I : Reads X boolean) (S :
     pub passes : (κ : Lft) (h : T.row.Denot) (x : X.row.Denot) (r : R.row.Denot) (w : T.row.Denot) → I x true → S (κ, tt) h (x, tt) r w → Q (κ, tt) h (x, tt) r w
     pub fails : (κ : Lft) (h : T.row.Denot) (x : X.row.Denot) (r : R.row.Denot) (w : T.row.Denot) → I x false → O (κ, tt) h tt r w → Q (κ, tt) h (x, tt) r w
 
-  module _ (#test #call #other : Name) where
+  module _ (#test #call #other : Callee) where
     abbrev other_way : Body
     other_way = seq (assign (place 5 []) (addr_of (place 1 (deref T.mir ∷ [])))) (seq (call #other (copy (place 5 []) ∷ []) (place 0 [])) return)
 
@@ -233,6 +237,8 @@ module _ (T X R : Plain) (Q : Ensures T R (X ∷ [])) (I : Reads X boolean) (S :
     choosing = record {
       lifetimes = 1;
       outlives = [];
+      ty_params = [];
+      givens = 0;
       params = 2;
       locals = value R.mir ∷ value (ty_ref (named 0) mut (pointee T.row.written)) ∷ value X.mir ∷ value boolean.mir ∷ value (ty_ref erased mut (pointee T.row.written)) ∷ value (ty_ref erased mut (pointee T.row.written)) ∷ [];
       body = seq (call #test (copy (place 2 []) ∷ []) (place 3 []))
@@ -255,7 +261,7 @@ module _ (T X R : Plain) (Q : Ensures T R (X ∷ [])) (I : Reads X boolean) (S :
         (λ held. assigns ! (addr ! (from ! (hop ! (look ! 8 refl) (stop !)))) (from ! (stop !)) (init ! 2 refl (tt, tt)) $ move ! (12 ∷ 13 ∷ []) $
         use2 𝓛 (raw ((Called-on T R (X ∷ []) S M 𝓤 𝓛).pre (at_call T R (X ∷ []) S M 𝓤 𝓛 κ q p o γ h xs))) (hands-over T R (X ∷ []) S M 𝓤 𝓛 κ q p o γ h xs are) $
         calls_at ! fm (Called-on T R (X ∷ []) S M 𝓤 𝓛) known.1.0 (at_call T R (X ∷ []) S M 𝓤 𝓛 κ q p o γ h xs) (and_then ! (load ! (from ! (stop !)) (look ! 3 refl)) (and_then ! (load ! (from ! (stop !)) (look ! 7 refl)) (no_more !))) (λ v.
-        use1 𝓛 (later (some (λ (y : Gave T R (X ∷ [])). given (Known T R (X ∷ []) S M 𝓤 𝓛 κ q p o γ h xs v y) (‵ (fres γ (T.row.coded.code y.after)) ⊛ ‵ (flft κ q))))) (gave T R (X ∷ []) S M 𝓤 𝓛 κ q p o γ h xs v) $ await ! tt $ pick ! (λ y. learn ! (λ e. split ! $
+        use1 𝓛 (later (some (λ (y : Gave T R (X ∷ [])). given (Known T R (X ∷ []) S M 𝓤 𝓛 κ q p o γ h xs v y) (‵ (had T passed_on κ p o γ h y.after) ⊛ ‵ (flft κ q))))) (gave T R (X ∷ []) S M 𝓤 𝓛 κ q p o γ h xs v) $ await ! tt $ pick ! (λ y. learn ! (λ e. split ! $
         -- [the last record; the token; room for _5; …; _4; …; _3; …; _2; …; _1; …; room for _0; …]
         land ! (from ! (stop !)) (init ! 12 refl (typed 𝓛 R R.mir R.one y.answer v e.1)) $ rewrite ! 12 (λ (u : Val). ‵ (fat full_share R.mir l₀ 0 u)) (ap only (R.tells y.answer _ e.1)) refl $
         returns_within ! (Post T R (X ∷ []) Q M 𝓤 𝓛 κ q p o γ h xs passed_on) refl (look ! 12 refl) $ forget ! 4 refl $ forget ! 6 refl $ forget ! 8 refl $ forget ! 10 refl $ forget ! 12 refl $
@@ -266,14 +272,14 @@ module _ (T X R : Plain) (Q : Ensures T R (X ∷ [])) (I : Reads X boolean) (S :
         assigns ! (addr ! (from ! (hop ! (look ! 8 refl) (stop !)))) (from ! (stop !)) (init ! 0 refl (tt, tt)) $ move ! (12 ∷ 13 ∷ []) $
         use2 𝓛 (raw ((Called-on T R [] O M 𝓤 𝓛).pre (at_call T R [] O M 𝓤 𝓛 κ q p o γ h tt))) (hands-over T R [] O M 𝓤 𝓛 κ q p o γ h tt tt) $
         calls_at ! fm (Called-on T R [] O M 𝓤 𝓛) known.1.1 (at_call T R [] O M 𝓤 𝓛 κ q p o γ h tt) (and_then ! (load ! (from ! (stop !)) (look ! 1 refl)) (no_more !)) (λ v.
-        use1 𝓛 (later (some (λ (y : Gave T R []). given (Known T R [] O M 𝓤 𝓛 κ q p o γ h tt v y) (‵ (fres γ (T.row.coded.code y.after)) ⊛ ‵ (flft κ q))))) (gave T R [] O M 𝓤 𝓛 κ q p o γ h tt v) $ await ! tt $ pick ! (λ y. learn ! (λ e. split ! $
+        use1 𝓛 (later (some (λ (y : Gave T R []). given (Known T R [] O M 𝓤 𝓛 κ q p o γ h tt v y) (‵ (had T passed_on κ p o γ h y.after) ⊛ ‵ (flft κ q))))) (gave T R [] O M 𝓤 𝓛 κ q p o γ h tt v) $ await ! tt $ pick ! (λ y. learn ! (λ e. split ! $
         -- [the last record; the token; _5; …; room for _4; …; _3; …; _2; …; _1; …; room for _0; …]
         land ! (from ! (stop !)) (init ! 12 refl (typed 𝓛 R R.mir R.one y.answer v e.1)) $ rewrite ! 12 (λ (u : Val). ‵ (fat full_share R.mir l₀ 0 u)) (ap only (R.tells y.answer _ e.1)) refl $
         returns ! (look ! 12 refl) $ forget ! 2 refl $ forget ! 6 refl $ forget ! 8 refl $ forget ! 10 refl $ forget ! 12 refl $
         move ! (12 ∷ 13 ∷ []) $ free1 ! $ move ! (10 ∷ 11 ∷ []) $ free1 ! $ move ! (8 ∷ 9 ∷ []) $ free1 ! $ move ! (6 ∷ 7 ∷ []) $ free1 ! $ move ! (4 ∷ 5 ∷ []) $ free1 ! $ move ! (2 ∷ 3 ∷ []) $ free1 ! $ free0 ! $
         by ! (exits T R (X ∷ []) Q M 𝓤 𝓛 κ q p o γ h xs passed_on are y.answer y.after (chooses.fails κ h xs.0 y.answer y.after (subst (I xs.0) (fails b failed) d.0) e.0) (fits R y.answer _ e.1)))))))))))))))
 
-  pub chosen : Chooses → {M : Type 1} {𝓤 : Ura M} (𝓛 : Logic 𝓤) (𝓜 : Model 𝓤 𝓛.H) (𝓡 : Running 𝓤 𝓛.H 𝓜) (env : Env) (#this : Name)
+  pub chosen : Chooses → {M : Type 1} {𝓤 : Ura M} (𝓛 : Logic 𝓤) (𝓜 : Model 𝓤 𝓛.H) (𝓡 : Running 𝓤 𝓛.H 𝓜) (env : Env) (#this : Callee)
       (tests : Cited 𝓤 𝓛.H 𝓜 𝓡 env (Reading X boolean I M 𝓤 𝓛)) (calls : Cited 𝓤 𝓛.H 𝓜 𝓡 env (Called-on T R (X ∷ []) S M 𝓤 𝓛)) (others : Cited 𝓤 𝓛.H 𝓜 𝓡 env (Called-on T R [] O M 𝓤 𝓛))
       → Closed 𝓤 𝓛.H (tables 𝓤 𝓛.H 𝓜 𝓡 env).C (tables 𝓤 𝓛.H 𝓜 𝓡 env).Λ #this (choosing tests.name calls.name others.name) → Triple 𝓤 (𝓡.run (env #this)) (Called-on T R (X ∷ []) Q M 𝓤 𝓛)
   chosen chooses 𝓛 𝓜 𝓡 env #this tests calls others unfolded =

@@ -12,16 +12,14 @@ use meulhaton_fields::request::RequestImage;
 use record::record::Connection;
 
 // A fresh record.
-#[unsafe(no_mangle)]
-pub extern "C" fn meulhaton_fresh() -> Connection
+pub fn meulhaton_fresh() -> Connection
     ensures { result ≡ fresh_record }
 {
     record::record::fresh()
 }
 
 // A request has come.
-#[unsafe(no_mangle)]
-pub extern "C" fn meulhaton_arrive(connection: &mut Connection, request: RequestImage) -> Reply
+pub fn meulhaton_arrive(connection: &mut Connection, request: RequestImage) -> Reply
     ensures { (connection.new ≡ (call_on connection.old (arrive request)).connection) × (result ≡ (call_on connection.old (arrive request)).reply) }
 {
     let request = arguments::arriving(request);
@@ -30,8 +28,7 @@ pub extern "C" fn meulhaton_arrive(connection: &mut Connection, request: Request
 }
 
 // The turn of the first request.
-#[unsafe(no_mangle)]
-pub extern "C" fn meulhaton_take(connection: &mut Connection) -> Reply
+pub fn meulhaton_take(connection: &mut Connection) -> Reply
     ensures { (connection.new ≡ (call_on connection.old take).connection) × (result ≡ (call_on connection.old take).reply) }
 {
     let answer = connection::take(connection);
@@ -63,8 +60,7 @@ fn report_unnamed(connection: &mut Connection) -> Reply
 }
 
 // The engine's outcome.
-#[unsafe(no_mangle)]
-pub extern "C" fn meulhaton_report(connection: &mut Connection, outcome: OutcomeImage) -> Reply
+pub fn meulhaton_report(connection: &mut Connection, outcome: OutcomeImage) -> Reply
     ensures { (connection.new ≡ (call_on connection.old (report outcome)).connection) × (result ≡ (call_on connection.old (report outcome)).reply) }
 {
     if arguments::is_outcome(outcome) {
@@ -74,8 +70,7 @@ pub extern "C" fn meulhaton_report(connection: &mut Connection, outcome: Outcome
 }
 
 // The connection ends.
-#[unsafe(no_mangle)]
-pub extern "C" fn meulhaton_close(connection: &mut Connection) -> Reply
+pub fn meulhaton_close(connection: &mut Connection) -> Reply
     ensures { (connection.new ≡ (call_on connection.old close).connection) × (result ≡ (call_on connection.old close).reply) }
 {
     let answer = connection::close(connection);

@@ -12,8 +12,7 @@ use meulhaton_fields::request::RequestRead;
 use refusal::Refusal;
 
 // What a message asks for: `requests::read::read_request`, in the version of this minor number.
-#[unsafe(no_mangle)]
-pub extern "C" fn meulhaton_read_request(minor: u8, message: &[u8]) -> RequestRead
+pub fn meulhaton_read_request(minor: u8, message: &[u8]) -> RequestRead
     ensures { result ≡ request_answer (in_version minor (λ v. request_of v (decode message.now))) }
 {
     let proposal = wire::version_of(minor);

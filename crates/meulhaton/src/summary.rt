@@ -13,8 +13,7 @@ use packing::Packed;
 use refusal::Refusal;
 
 // A summary, as a reply has it: `summaries::summary::pack_summary`.
-#[unsafe(no_mangle)]
-pub extern "C" fn meulhaton_pack_summary(summary: SummaryImage, out: &mut [u8], at: usize) -> Output
+pub fn meulhaton_pack_summary(summary: SummaryImage, out: &mut [u8], at: usize) -> Output
     ensures answer { result ≡ output_of (telling at (fitted out.old at (summary_form summary))) }
     ensures filled { out.new ≡ left (leaves at) (fitted out.old at (summary_form summary)) out.old }
 {

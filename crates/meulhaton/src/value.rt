@@ -14,16 +14,14 @@ use meulhaton_fields::value::ValueRead;
 use packing::Packed;
 
 // A whole message as one value: `values::read::read_message`.
-#[unsafe(no_mangle)]
-pub extern "C" fn meulhaton_read_message(message: &[u8]) -> ValueRead
+pub fn meulhaton_read_message(message: &[u8]) -> ValueRead
     ensures { result ≡ value_answer (tell_message message.now (decode message.now)) }
 {
     value::value_answer(values::read::read_message(message))
 }
 
 // The value at `at`, with room for `depth` open containers, of which there are never more than 16: `values::read::read_value`.
-#[unsafe(no_mangle)]
-pub extern "C" fn meulhaton_read_value(message: &[u8], at: usize, depth: usize) -> ValueRead
+pub fn meulhaton_read_value(message: &[u8], at: usize, depth: usize) -> ValueRead
     ensures { result ≡ value_answer (tell_value (value_in message.now (allowed depth) at)) }
 {
     value::value_answer(values::read::read_value(message, at, depth))
@@ -47,8 +45,7 @@ pub fn packed(done: Packed) -> Output
 }
 
 // False or True: `packing::pack_boolean`.
-#[unsafe(no_mangle)]
-pub extern "C" fn meulhaton_pack_boolean(value: bool, out: &mut [u8], at: usize) -> Output
+pub fn meulhaton_pack_boolean(value: bool, out: &mut [u8], at: usize) -> Output
     ensures answer { result ≡ output_of (telling at (fitted out.old at (returned (pack_boolean value)))) }
     ensures filled { out.new ≡ left (leaves at) (fitted out.old at (returned (pack_boolean value))) out.old }
 {
@@ -57,8 +54,7 @@ pub extern "C" fn meulhaton_pack_boolean(value: bool, out: &mut [u8], at: usize)
 }
 
 // An Integer: `packing::pack_integer`.
-#[unsafe(no_mangle)]
-pub extern "C" fn meulhaton_pack_integer(number: i64, out: &mut [u8], at: usize) -> Output
+pub fn meulhaton_pack_integer(number: i64, out: &mut [u8], at: usize) -> Output
     ensures answer { result ≡ output_of (telling at (fitted out.old at (returned (pack_integer number)))) }
     ensures filled { out.new ≡ left (leaves at) (fitted out.old at (returned (pack_integer number))) out.old }
 {
@@ -67,8 +63,7 @@ pub extern "C" fn meulhaton_pack_integer(number: i64, out: &mut [u8], at: usize)
 }
 
 // A String, given its bytes: `packing::pack_string`.
-#[unsafe(no_mangle)]
-pub extern "C" fn meulhaton_pack_string(text: &[u8], out: &mut [u8], at: usize) -> Output
+pub fn meulhaton_pack_string(text: &[u8], out: &mut [u8], at: usize) -> Output
     ensures answer { result ≡ output_of (telling at (fitted out.old at (string_form text.now))) }
     ensures filled { out.new ≡ left (leaves at) (fitted out.old at (string_form text.now)) out.old }
 {
@@ -77,8 +72,7 @@ pub extern "C" fn meulhaton_pack_string(text: &[u8], out: &mut [u8], at: usize) 
 }
 
 // The header of a Dictionary: `packing::pack_dictionary`.
-#[unsafe(no_mangle)]
-pub extern "C" fn meulhaton_pack_dictionary(count: usize, out: &mut [u8], at: usize) -> Output
+pub fn meulhaton_pack_dictionary(count: usize, out: &mut [u8], at: usize) -> Output
     ensures answer { result ≡ output_of (telling at (fitted out.old at (dictionary_form count))) }
     ensures filled { out.new ≡ left (leaves at) (fitted out.old at (dictionary_form count)) out.old }
 {
@@ -87,8 +81,7 @@ pub extern "C" fn meulhaton_pack_dictionary(count: usize, out: &mut [u8], at: us
 }
 
 // The header of a Structure: `packing::pack_structure`.
-#[unsafe(no_mangle)]
-pub extern "C" fn meulhaton_pack_structure(
+pub fn meulhaton_pack_structure(
     tag: u8,
     count: usize,
     out: &mut [u8],

@@ -68,8 +68,7 @@ fn agreed(found: Negotiation) -> Agreement
 }
 
 // The version to go on with: `handshake::negotiation::negotiate`.
-#[unsafe(no_mangle)]
-pub extern "C" fn meulhaton_negotiate(input: &[u8]) -> Agreement
+pub fn meulhaton_negotiate(input: &[u8]) -> Agreement
     ensures { result ≡ agreement_of (negotiated input.now) }
 {
     agreed(handshake::negotiation::negotiate(input))
@@ -117,8 +116,7 @@ fn frame_answer(found: Frame) -> FrameRead
 }
 
 // The frame at the front of `input`: `framing::reader::read_frame`, in the version of this minor number.
-#[unsafe(no_mangle)]
-pub extern "C" fn meulhaton_read_frame(minor: u8, input: &[u8], buffer: &mut [u8]) -> FrameRead
+pub fn meulhaton_read_frame(minor: u8, input: &[u8], buffer: &mut [u8]) -> FrameRead
     ensures answer { result ≡ frame_answer (telling (in_version minor (λ v. frame_of (keeps_alive v) (length buffer.old) input.now))) }
     ensures filled { buffer.new ≡ left leaves (in_version minor (λ v. frame_of (keeps_alive v) (length buffer.old) input.now)) buffer.old }
 {
@@ -150,8 +148,7 @@ fn written(done: Written) -> Output
 }
 
 // The message in chunks: `framing::writer::write_chunks`.
-#[unsafe(no_mangle)]
-pub extern "C" fn meulhaton_write_chunks(
+pub fn meulhaton_write_chunks(
     message: &[u8],
     chunk_size: usize,
     out: &mut [u8],

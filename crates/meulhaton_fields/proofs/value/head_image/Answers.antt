@@ -1,8 +1,6 @@
 -- `meulhaton_fields::value::head_image` meets its contract. Assumes nothing.
 use Prim.Native.Nat.{ℕ}
-use mir.Facts.{to_z-of_z}
-use borrow.Author.Rules.{rules, sfits_of}
-use lib.IntN.{ℤ, pos}
+use lib.IntN.{pos}
 use mathlib.Core.Path.{sym, ap, ◌∙◌}
 use Rattle.meulhaton_fields.proofs.Bits.{as_number}
 use Rattle.meulhaton_fields.specs.Values.{head_image, plain}
@@ -13,9 +11,6 @@ returns-in-Null c = c.plain.ensures ∙ ap head_image (sym c.in-Null.is)
 
 pub returns-in-Boolean : goal.returns-in-Boolean
 returns-in-Boolean c = c.plain-in-Boolean.ensures ∙ ap (λ (b : ℕ). plain 2 b (pos 0) 0) (as_number c.in-Boolean.value) ∙ ap head_image (sym c.in-Boolean.is)
-
-pub returns-in-Integer : goal.returns-in-Integer
-returns-in-Integer c = c.plain-in-Integer.ensures ∙ ap (λ (z : ℤ). plain 3 0 z 0) (to_z-of_z (sfits_of c.in-Integer.known_told-in-Integer-1-own.given.0.1)) ∙ ap head_image (sym c.in-Integer.is)
 
 pub returns-in-Float : goal.returns-in-Float
 returns-in-Float c = c.plain-in-Float.ensures ∙ ap head_image (sym c.in-Float.is)
