@@ -7,4 +7,4 @@ use borrow.Author.Rules.{rules}
 use Rattle.vectors.proofs.run_line.Goals as goal
 
 pub slice_bounds-run_vector-end : goal.slice_bounds-run_vector-end
-slice_bounds-run_vector-end c = omega (arith, decoded-fits _ _ (sym (ap bytes_told c.in-Bytes.is) ∙ c.decode.ensures.0))
+slice_bounds-run_vector-end c = omega (arith, decoded-fits _ _ (sym (ap bytes_told c.in-Bytes.is) ∙ c.decode.ensures.answer))
