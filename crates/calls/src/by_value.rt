@@ -4,6 +4,7 @@ use crate::answers;
 use record::record::{Connection, Control};
 use states::answers::Outcome;
 use states::request::Request;
+use std::io;
 
 // The record with another control.
 fn with_control(connection: Connection, control: Control) -> Connection {
@@ -12,7 +13,7 @@ fn with_control(connection: Connection, control: Control) -> Connection {
     next
 }
 
-pub fn arrive(connection: Connection, request: Request) -> Connection {
+pub fn arrive(rt: HostRuntime, connection: Connection, request: Request) -> io::Result<Connection> {
     let control = connection.control;
     let streams = connection.streams;
     let mut kinds = connection.kinds;
@@ -27,16 +28,16 @@ pub fn arrive(connection: Connection, request: Request) -> Connection {
         request,
     );
     let answer = after.answer;
-    answers::arrival(answer);
+    answers::arrival(rt, answer)?;
     let left = after.control;
     let mut next = with_control(connection, left);
     next.kinds = kinds;
     next.counts = counts;
     next.qids = qids;
-    next
+    Ok(next)
 }
 
-pub fn take(connection: Connection) -> Connection {
+pub fn take(rt: HostRuntime, connection: Connection) -> io::Result<Connection> {
     let control = connection.control;
     let streams = connection.streams;
     let kinds = connection.kinds;
@@ -44,12 +45,12 @@ pub fn take(connection: Connection) -> Connection {
     let qids = connection.qids;
     let after = steps::take::step(control, &streams, &kinds, &counts, &qids);
     let answer = after.answer;
-    answers::taken(answer);
+    answers::taken(rt, answer)?;
     let left = after.control;
-    with_control(connection, left)
+    Ok(with_control(connection, left))
 }
 
-pub fn report(connection: Connection, outcome: Outcome) -> Connection {
+pub fn report(rt: HostRuntime, connection: Connection, outcome: Outcome) -> io::Result<Connection> {
     let control = connection.control;
     let mut streams = connection.streams;
     let kinds = connection.kinds;
@@ -57,14 +58,14 @@ pub fn report(connection: Connection, outcome: Outcome) -> Connection {
     let qids = connection.qids;
     let after = steps::report::step(control, &mut streams, &kinds, &counts, &qids, outcome);
     let answer = after.answer;
-    answers::reported(answer);
+    answers::reported(rt, answer)?;
     let left = after.control;
     let mut next = with_control(connection, left);
     next.streams = streams;
-    next
+    Ok(next)
 }
 
-pub fn close(connection: Connection) -> Connection {
+pub fn close(rt: HostRuntime, connection: Connection) -> io::Result<Connection> {
     let control = connection.control;
     let streams = connection.streams;
     let kinds = connection.kinds;
@@ -72,7 +73,7 @@ pub fn close(connection: Connection) -> Connection {
     let qids = connection.qids;
     let after = steps::close::step(control, &streams, &kinds, &counts, &qids);
     let answer = after.answer;
-    answers::closing(answer);
+    answers::closing(rt, answer)?;
     let left = after.control;
-    with_control(connection, left)
+    Ok(with_control(connection, left))
 }

@@ -29,52 +29,64 @@ mod show;
 use console::{input, output};
 use hex_lines::Decoded;
 use record::record::Connection;
+use std::io;
 
 // What the name of a group of lines begins with.
 const NAME_MARK: u8 = b'#';
 
 // Performs the operation that a line's first byte names on the bytes after it. The line's bytes are the first `size`.
-fn run_bytes(bytes: &[u8], size: usize, connection: Connection) -> Connection {
+fn run_bytes(
+    rt: HostRuntime,
+    bytes: &[u8],
+    size: usize,
+    connection: Connection,
+) -> io::Result<Connection> {
     if size == 0 {
-        return answers::no_operation(connection);
+        return answers::no_operation(rt, connection);
     }
     if bytes.len() < size {
-        return answers::no_operation(connection);
+        return answers::no_operation(rt, connection);
     }
-    operations::perform(bytes[0], &bytes[1..size], connection)
+    operations::perform(rt, bytes[0], &bytes[1..size], connection)
 }
 
-fn run_line(line: &[u8], bytes: &mut [u8], connection: Connection) -> Connection {
+fn run_line(
+    rt: HostRuntime,
+    line: &[u8],
+    bytes: &mut [u8],
+    connection: Connection,
+) -> io::Result<Connection> {
     if operands::byte_at(line, 0) == NAME_MARK {
-        output::text(line);
-        return connection;
+        output::text(rt, line)?;
+        return Ok(connection);
     }
     match hex_lines::decode(line, bytes) {
-        Decoded::Bytes(n) => run_bytes(bytes, n, connection),
-        Decoded::Refused(_) => answers::no_operation(connection),
+        Decoded::Bytes(n) => run_bytes(rt, bytes, n, connection),
+        Decoded::Refused(_) => answers::no_operation(rt, connection),
     }
 }
 
 // The input need not end, so the turns are counted down from a number that no run uses up.
-fn run(block: &mut [u8], held: &mut [u8], bytes: &mut [u8]) {
+fn run(rt: HostRuntime, block: &mut [u8], held: &mut [u8], bytes: &mut [u8]) -> io::Result<()> {
     let mut connection = record::record::fresh();
     let mut line = input::fresh();
     let mut turns = u64::MAX;
     while 0 < turns {
         turns -= 1;
-        line = input::next(line, block, held);
+        line = input::next(rt, line, block, held)?;
         if !line.found {
-            return;
+            return Ok(());
         }
         let size = line.size;
-        connection = run_line(&held[0..size], bytes, connection);
-        output::line_end();
+        connection = run_line(rt, &held[0..size], bytes, connection)?;
+        output::line_end(rt)?;
     }
+    Ok(())
 }
 
-fn main() {
-    let mut block = io::large_buffer();
+fn main(rt: HostRuntime) -> io::Result<()> {
+    let mut block = [0u8; input::BLOCK];
     let mut held = [0u8; lines::HELD];
     let mut bytes = [0u8; 20000];
-    run(&mut block, &mut held, &mut bytes);
+    run(rt, &mut block, &mut held, &mut bytes)
 }

@@ -5,6 +5,7 @@ use crate::operands;
 use console::output;
 use states::request;
 use states::request::Request;
+use std::io;
 
 // More than a line has bytes: no line is long enough for a request whose tag names none.
 const NO_REQUEST: usize = 40001;
@@ -51,9 +52,10 @@ pub fn request_at(operands: &[u8], at: usize) -> Request
 }
 
 // Writes n and qid behind a tag, where it is one of those that carry them.
-pub fn write_numbers(kind: u8, n: i64, qid: i64) {
+pub fn write_numbers(rt: HostRuntime, kind: u8, n: i64, qid: i64) -> io::Result<()> {
     if kind == request::DISCARD || kind == request::PULL {
-        output::signed(n);
-        output::signed(qid);
+        output::signed(rt, n)?;
+        output::signed(rt, qid)?;
     }
+    Ok(())
 }

@@ -8,10 +8,11 @@ use console::output;
 use record::record::{Connection, Control};
 use record::{names, ring};
 use states::request;
+use std::io;
 
-pub fn fresh() -> Connection {
-    output::byte(0x00);
-    record::record::fresh()
+pub fn fresh(rt: HostRuntime) -> io::Result<Connection> {
+    output::byte(rt, 0x00)?;
+    Ok(record::record::fresh())
 }
 
 // The first four bytes are the state, whether one is in flight, the first place, and how many wait.
@@ -79,7 +80,7 @@ fn control_of(operands: &[u8], open_at: usize, shown: usize) -> Control
     }
 }
 
-pub fn set(operands: &[u8], connection: Connection) -> Connection {
+pub fn set(rt: HostRuntime, operands: &[u8], connection: Connection) -> io::Result<Connection> {
     let mut kinds = [0u8; 32];
     let mut counts = [0i64; 32];
     let mut qids = [0i64; 32];
@@ -88,31 +89,35 @@ pub fn set(operands: &[u8], connection: Connection) -> Connection {
     let open_at = place_requests(operands, first, waiting, &mut kinds, &mut counts, &mut qids);
     let open = show::shown(operands::count_at(operands, open_at), 8);
     if operands.len() != open_at + 25 + 8 * open {
-        return answers::no_operation(connection);
+        return answers::no_operation(rt, connection);
     }
-    output::byte(0x00);
+    output::byte(rt, 0x00)?;
     let control = control_of(operands, open_at, open);
     let streams = streams_of(operands, open_at + 1, open);
-    Connection {
+    Ok(Connection {
         control: control,
         streams: streams,
         kinds: kinds,
         counts: counts,
         qids: qids,
-    }
+    })
 }
 
-pub fn set_place(operands: &[u8], connection: Connection) -> Connection {
+pub fn set_place(
+    rt: HostRuntime,
+    operands: &[u8],
+    connection: Connection,
+) -> io::Result<Connection> {
     let place = operands::count_at(operands, 0);
     if operands.len() != 18 || 32 <= place {
-        return answers::no_operation(connection);
+        return answers::no_operation(rt, connection);
     }
-    output::byte(0x00);
+    output::byte(rt, 0x00)?;
     let n = operands::signed_at(operands, 2);
     let qid = operands::signed_at(operands, 10);
     let mut next = connection;
     next.kinds[place] = operands::byte_at(operands, 1);
     next.counts[place] = n;
     next.qids[place] = qid;
-    next
+    Ok(next)
 }

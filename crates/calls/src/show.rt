@@ -18,6 +18,7 @@ use crate::request_bytes;
 use console::output;
 use record::record::Connection;
 use record::ring;
+use std::io;
 
 // How many of `count` a record has a place for.
 pub fn shown(count: usize, places: usize) -> usize
@@ -27,47 +28,56 @@ pub fn shown(count: usize, places: usize) -> usize
 }
 
 // What stands in `count` places, from the first on.
-fn show_places(kinds: &[u8; 32], counts: &[i64; 32], qids: &[i64; 32], first: usize, count: usize) {
+fn show_places(
+    rt: HostRuntime,
+    kinds: &[u8; 32],
+    counts: &[i64; 32],
+    qids: &[i64; 32],
+    first: usize,
+    count: usize,
+) -> io::Result<()> {
     let mut at = first;
     let mut left = count;
     while 0 < left {
         let place = at % 32;
         let kind = kinds[place];
-        output::byte(kind);
-        request_bytes::write_numbers(kind, counts[place], qids[place]);
+        output::byte(rt, kind)?;
+        request_bytes::write_numbers(rt, kind, counts[place], qids[place])?;
         at = ring::behind(at);
         left -= 1;
     }
+    Ok(())
 }
 
 // The first `count` open numbers.
-fn show_open(streams: [u64; 8], count: usize)
+fn show_open(rt: HostRuntime, streams: [u64; 8], count: usize) -> io::Result<()>
     requires { count ≤ 8 }
 {
     let mut i: usize = 0;
     while i < count {
-        output::unsigned(streams[i], 8);
+        output::unsigned(rt, streams[i], 8)?;
         i += 1;
     }
+    Ok(())
 }
 
-pub fn show(connection: Connection) -> Connection {
+pub fn show(rt: HostRuntime, connection: Connection) -> io::Result<Connection> {
     let control = connection.control;
     let streams = connection.streams;
     let kinds = connection.kinds;
     let counts = connection.counts;
     let qids = connection.qids;
     let waiting = shown(control.waiting, 32);
-    output::byte(0x00);
-    output::byte(control.state);
-    output::byte(control.in_flight);
-    output::size(control.first, 1);
-    output::size(control.waiting, 1);
-    show_places(&kinds, &counts, &qids, control.first, waiting);
-    output::size(control.opened, 1);
-    show_open(streams, shown(control.opened, 8));
-    output::unsigned(control.next, 8);
-    output::unsigned(control.accepted, 8);
-    output::unsigned(control.sent, 8);
-    connection
+    output::byte(rt, 0x00)?;
+    output::byte(rt, control.state)?;
+    output::byte(rt, control.in_flight)?;
+    output::size(rt, control.first, 1)?;
+    output::size(rt, control.waiting, 1)?;
+    show_places(rt, &kinds, &counts, &qids, control.first, waiting)?;
+    output::size(rt, control.opened, 1)?;
+    show_open(rt, streams, shown(control.opened, 8))?;
+    output::unsigned(rt, control.next, 8)?;
+    output::unsigned(rt, control.accepted, 8)?;
+    output::unsigned(rt, control.sent, 8)?;
+    Ok(connection)
 }

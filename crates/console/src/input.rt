@@ -1,16 +1,20 @@
 // Standard input, block by block and line by line, through memory that the program lends to each call and leaves alone between them. A line
 // ends with 0A, which the last may lack: it is a line if it has characters. Of a line that is longer than the memory in which lines are held,
 // its beginning is a line.
-ghost use Rattle.std.specs.Prelude.{◌≡◌, false, ◌≤◌, length};
+ghost use Rattle.std.specs.Prelude.{◌≡◌, false, ◌≤◌, IfOk, length};
 
-use libc::STDIN_FILENO;
+use std::io;
+use std::io::Read;
+
+// How many bytes a program lends for what is read at a time.
+pub const BLOCK: usize = 65536;
 
 // Reads what comes next, as far as there is room, and answers how many bytes it is: 0 where nothing more comes.
-pub fn read(block: &mut [u8]) -> usize
-    ensures { result ≤ length block.new }
+pub fn read(rt: HostRuntime, block: &mut [u8]) -> io::Result<usize>
+    ensures { IfOk result (λ n. n ≤ length block.new) }
 {
-    let got = libc::read(STDIN_FILENO, block);
-    io::count(got, block)
+    let mut stdin = rt.stdin();
+    stdin.read(block)
 }
 
 // How far the input has come: whether a line was found, and how many characters of it, or of the one that has begun, are held.
@@ -52,8 +56,8 @@ fn take_read(input: Input, block: &[u8], held: &mut [u8]) -> Input
 }
 
 // The next line, at the front of `held`. The input need not end, so the turns are counted down from a number that no run uses up.
-pub fn next(last: Input, block: &mut [u8], held: &mut [u8]) -> Input
-    ensures { result.size ≤ length held.new }
+pub fn next(rt: HostRuntime, last: Input, block: &mut [u8], held: &mut [u8]) -> io::Result<Input>
+    ensures { IfOk result (λ line. line.size ≤ length held.new) }
 {
     let begun = if last.found { 0 } else { last.size };
     let unread = Input {
@@ -67,9 +71,9 @@ pub fn next(last: Input, block: &mut [u8], held: &mut [u8]) -> Input
     while 0 < turns {
         turns -= 1;
         if input.found {
-            return input;
+            return Ok(input);
         }
-        let filled = read(block);
+        let filled = read(rt, block)?;
         let read = Input {
             found: filled == 0 && 0 < input.size,
             size: input.size,
@@ -77,9 +81,9 @@ pub fn next(last: Input, block: &mut [u8], held: &mut [u8]) -> Input
             filled: filled,
         };
         if filled == 0 {
-            return read;
+            return Ok(read);
         }
         input = take_read(read, block, held);
     }
-    input
+    Ok(input)
 }

@@ -1,74 +1,73 @@
 // Standard output: bytes and numbers as upper-case hexadecimal digits, two a byte, and text as it stands.
 use hex_lines::Encoded;
-use libc::STDOUT_FILENO;
+use std::io;
 
 // How many bytes are written at a time.
 const PIECE: usize = 256;
 
-pub fn text(words: &[u8]) {
-    io::write_all(STDOUT_FILENO, words);
+pub fn text(rt: HostRuntime, words: &[u8]) -> io::Result<()> {
+    rt.write_all(words)
 }
 
-pub fn line_end() {
-    text(b"\n");
+pub fn line_end(rt: HostRuntime) -> io::Result<()> {
+    text(rt, b"\n")
 }
 
 // At most a piece.
-fn piece(bytes: &[u8]) {
+fn piece(rt: HostRuntime, bytes: &[u8]) -> io::Result<()> {
     let mut digits = [0u8; 2 * PIECE];
     if let Encoded::Characters(n) = hex_lines::encode(bytes, &mut digits) {
         if n <= digits.len() {
-            text(&digits[0..n]);
+            text(rt, &digits[0..n])?;
         }
     }
+    Ok(())
 }
 
-pub fn bytes(bytes: &[u8]) {
+pub fn bytes(rt: HostRuntime, bytes: &[u8]) -> io::Result<()> {
     let mut i = 0;
     while i < bytes.len() {
         if bytes.len() - i < PIECE {
-            piece(&bytes[i..]);
-            return;
+            return piece(rt, &bytes[i..]);
         }
         let end = i + PIECE;
-        piece(&bytes[i..end]);
+        piece(rt, &bytes[i..end])?;
         i = end;
     }
+    Ok(())
 }
 
 // The first `size` bytes, or all where there are fewer.
-pub fn front(all: &[u8], size: usize) {
+pub fn front(rt: HostRuntime, all: &[u8], size: usize) -> io::Result<()> {
     if size < all.len() {
-        bytes(&all[0..size]);
-        return;
+        return bytes(rt, &all[0..size]);
     }
-    bytes(all);
+    bytes(rt, all)
 }
 
-pub fn byte(b: u8) {
-    bytes(&[b]);
+pub fn byte(rt: HostRuntime, b: u8) -> io::Result<()> {
+    bytes(rt, &[b])
 }
 
 // The lowest `width` bytes of a number, at most eight, the highest first.
-pub fn unsigned(number: u64, width: usize) {
+pub fn unsigned(rt: HostRuntime, number: u64, width: usize) -> io::Result<()> {
     let mut all = [0u8; 8];
     numbers::write_unsigned(&mut all, 0, 8, number);
     if width < 8 {
         let start = 8 - width;
-        bytes(&all[start..]);
-        return;
+        return bytes(rt, &all[start..]);
     }
-    bytes(&all);
+    bytes(rt, &all)
 }
 
 // The same for places, sizes and counts.
-pub fn size(size: usize, width: usize) {
-    unsigned(size as u64, width);
+pub fn size(rt: HostRuntime, size: usize, width: usize) -> io::Result<()> {
+    unsigned(rt, size as u64, width)
 }
 
 // An integer in eight bytes, in two's complement.
-pub fn signed(number: i64) {
+pub fn signed(rt: HostRuntime, number: i64) -> io::Result<()> {
     let mut all = [0u8; 8];
     numbers::write_signed(&mut all, 0, 8, number);
-    bytes(&all);
+    bytes(rt, &all)
 }

@@ -2,18 +2,20 @@
 // ends, the connection closes or a line is refused. Document 01, "Bench trial program". What the whole input leads to: crates/run.
 #![tactic(auto)]
 
-ghost use Rattle.std.specs.Prelude.{◌≡◌, ◌≤◌, length, take};
+ghost use Rattle.std.specs.Prelude.{◌≡◌, ◌≤◌, IfOk, length, take};
 ghost use Rattle.session.specs.Room.{enough};
 ghost use Rattle.run.specs.Run.{progress_of, cut_in, step_in};
 
 use console::{input, output};
 use run::Run;
+use std::io;
 
 // What 64 lines can send at most.
 const ROOM: usize = 281600;
 
 // Hands a block over, portion by portion, and writes what each leads to.
 fn pass(
+    rt: HostRuntime,
     before: Run,
     streams: &mut [u64; 8],
     kinds: &mut [u8; 32],
@@ -22,10 +24,10 @@ fn pass(
     held: &mut [u8],
     block: &[u8],
     out: &mut [u8],
-) -> Run
+) -> io::Result<Run>
     requires { enough ≤ length out.old }
-    ensures progress { progress_of result streams.new kinds.new counts.new qids.new ≡ (step_in held.old before streams.old kinds.old counts.old qids.old block.now).progress }
-    ensures begun { take result.begun held.new ≡ (cut_in held.old before block.now).begun }
+    ensures progress { IfOk result (λ after. progress_of after streams.new kinds.new counts.new qids.new ≡ (step_in held.old before streams.old kinds.old counts.old qids.old block.now).progress) }
+    ensures begun { IfOk result (λ after. take after.begun held.new ≡ (cut_in held.old before block.now).begun) }
 {
     let mut state = before;
     let mut from = 0;
@@ -41,15 +43,16 @@ fn pass(
             out,
         );
         let written = fed.written;
-        output::text(&out[0..written]);
+        output::text(rt, &out[0..written])?;
         state = fed.run;
         from += fed.taken;
     }
-    state
+    Ok(state)
 }
 
 // The input need not end, so the turns are counted down from a number that no run uses up.
 fn serve(
+    rt: HostRuntime,
     streams: &mut [u64; 8],
     kinds: &mut [u8; 32],
     counts: &mut [i64; 32],
@@ -57,21 +60,21 @@ fn serve(
     block: &mut [u8],
     held: &mut [u8],
     out: &mut [u8],
-)
+) -> io::Result<()>
     requires { (40001 ≤ length held.old) × (enough ≤ length out.old) }
 {
     let mut state = run::fresh();
     let mut turns = u64::MAX;
     while 0 < turns {
         turns -= 1;
-        let size = input::read(block);
+        let size = input::read(rt, block)?;
         if size == 0 {
             let last = run::finish(state, streams, kinds, counts, qids, held, out);
             let written = last.written;
-            output::text(&out[0..written]);
-            return;
+            return output::text(rt, &out[0..written]);
         }
         state = pass(
+            rt,
             state,
             streams,
             kinds,
@@ -80,22 +83,24 @@ fn serve(
             held,
             &block[0..size],
             out,
-        );
+        )?;
         if !state.goes_on {
-            return;
+            return Ok(());
         }
     }
+    Ok(())
 }
 
-fn main() {
+fn main(rt: HostRuntime) -> io::Result<()> {
     let mut streams = [0u64; 8];
     let mut kinds = [0u8; 32];
     let mut counts = [0i64; 32];
     let mut qids = [0i64; 32];
-    let mut block = io::large_buffer();
+    let mut block = [0u8; input::BLOCK];
     let mut held = [0u8; lines::HELD];
     let mut out = [0u8; ROOM];
     serve(
+        rt,
         &mut streams,
         &mut kinds,
         &mut counts,
@@ -103,5 +108,5 @@ fn main() {
         &mut block,
         &mut held,
         &mut out,
-    );
+    )
 }

@@ -1,18 +1,19 @@
 // The answers that any operation can have.
 use console::output;
 use refusal::Refusal;
+use std::io;
 
-pub fn no_vector() {
-    output::byte(0xFE);
+pub fn no_vector(rt: HostRuntime) -> io::Result<()> {
+    output::byte(rt, 0xFE)
 }
 
-pub fn refused_at(why: Refusal, place: usize) {
-    output::byte(0xFF);
-    output::byte(why.number());
-    output::size(place, 4);
+pub fn refused_at(rt: HostRuntime, why: Refusal, place: usize) -> io::Result<()> {
+    output::byte(rt, 0xFF)?;
+    output::byte(rt, why.number())?;
+    output::size(rt, place, 4)
 }
 
 // The refusal of a handshake, a frame or a packer.
-pub fn refused(why: Refusal) {
-    refused_at(why, 0);
+pub fn refused(rt: HostRuntime, why: Refusal) -> io::Result<()> {
+    refused_at(rt, why, 0)
 }

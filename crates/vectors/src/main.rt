@@ -30,32 +30,32 @@ mod wire;
 
 use console::{input, output};
 use hex_lines::Decoded;
+use std::io;
 
 // What 16,384 bytes in chunks of one take: the largest room that a line may ask for.
 const LARGEST_ROOM: usize = 49154;
 
 // The numbers are hexadecimal, as everything in a line is.
-fn perform(operation: u8, operands: &[u8], space: &mut [u8]) {
+fn perform(rt: HostRuntime, operation: u8, operands: &[u8], space: &mut [u8]) -> io::Result<()> {
     match operation {
-        0x01 => wire::negotiate(operands),
-        0x02 => wire::read_frame(operands, space),
-        0x03 => wire::write_chunks(operands, space),
-        0x04 => values_read::read_value(operands),
-        0x05 => requests_read::read_request(operands),
-        0x06..=0x09 => values_packed::pack(operation, operands, space),
-        0x19 => values_read::read_values(operands),
-        0x1A => values_packed::pack_at(operands),
-        0x1B => summaries_packed::show_length(operands),
-        _ => answers::no_vector(),
+        0x01 => wire::negotiate(rt, operands),
+        0x02 => wire::read_frame(rt, operands, space),
+        0x03 => wire::write_chunks(rt, operands, space),
+        0x04 => values_read::read_value(rt, operands),
+        0x05 => requests_read::read_request(rt, operands),
+        0x06..=0x09 => values_packed::pack(rt, operation, operands, space),
+        0x19 => values_read::read_values(rt, operands),
+        0x1A => values_packed::pack_at(rt, operands),
+        0x1B => summaries_packed::show_length(rt, operands),
+        _ => answers::no_vector(rt),
     }
 }
 
-fn run_vector(vector: &[u8], space: &mut [u8]) {
+fn run_vector(rt: HostRuntime, vector: &[u8], space: &mut [u8]) -> io::Result<()> {
     if vector.len() == 0 {
-        answers::no_vector();
-        return;
+        return answers::no_vector(rt);
     }
-    perform(vector[0], &vector[1..], space);
+    perform(rt, vector[0], &vector[1..], space)
 }
 
 fn names_group(line: &[u8]) -> bool {
@@ -65,37 +65,43 @@ fn names_group(line: &[u8]) -> bool {
     line[0] == b'#'
 }
 
-fn run_line(line: &[u8], bytes: &mut [u8], space: &mut [u8]) {
+fn run_line(rt: HostRuntime, line: &[u8], bytes: &mut [u8], space: &mut [u8]) -> io::Result<()> {
     if names_group(line) {
-        output::text(line);
-        return;
+        return output::text(rt, line);
     }
     match hex_lines::decode(line, bytes) {
-        Decoded::Bytes(n) => run_vector(&bytes[0..n], space),
-        Decoded::Refused(_) => answers::no_vector(),
+        Decoded::Bytes(n) => run_vector(rt, &bytes[0..n], space),
+        Decoded::Refused(_) => answers::no_vector(rt),
     }
 }
 
 // The input need not end, so the turns are counted down from a number that no run uses up.
-fn run(block: &mut [u8], held: &mut [u8], bytes: &mut [u8], space: &mut [u8]) {
+fn run(
+    rt: HostRuntime,
+    block: &mut [u8],
+    held: &mut [u8],
+    bytes: &mut [u8],
+    space: &mut [u8],
+) -> io::Result<()> {
     let mut line = input::fresh();
     let mut turns = u64::MAX;
     while 0 < turns {
         turns -= 1;
-        line = input::next(line, block, held);
+        line = input::next(rt, line, block, held)?;
         if !line.found {
-            return;
+            return Ok(());
         }
         let size = line.size;
-        run_line(&held[0..size], bytes, space);
-        output::line_end();
+        run_line(rt, &held[0..size], bytes, space)?;
+        output::line_end(rt)?;
     }
+    Ok(())
 }
 
-fn main() {
-    let mut block = io::large_buffer();
+fn main(rt: HostRuntime) -> io::Result<()> {
+    let mut block = [0u8; input::BLOCK];
     let mut held = [0u8; lines::HELD];
     let mut bytes = [0u8; 20000];
     let mut space = [0u8; LARGEST_ROOM];
-    run(&mut block, &mut held, &mut bytes, &mut space);
+    run(rt, &mut block, &mut held, &mut bytes, &mut space)
 }

@@ -10,6 +10,7 @@
 use crate::{answers, operands};
 use console::output;
 use states::answers::{Failure, Summary};
+use std::io;
 
 // Whether the operands name a summary, and nothing is missing or left over.
 pub fn names_summary(operands: &[u8]) -> bool {
@@ -37,11 +38,14 @@ pub fn summary_of(operands: &[u8]) -> Summary {
     }
 }
 
-pub fn show_length(operands: &[u8]) {
+pub fn show_length(rt: HostRuntime, operands: &[u8]) -> io::Result<()> {
     if !names_summary(operands) {
-        answers::no_vector();
-        return;
+        return answers::no_vector(rt);
     }
-    output::byte(0x00);
-    output::size(summaries::summary::summary_length(summary_of(operands)), 4);
+    output::byte(rt, 0x00)?;
+    output::size(
+        rt,
+        summaries::summary::summary_length(summary_of(operands)),
+        4,
+    )
 }

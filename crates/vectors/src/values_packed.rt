@@ -6,6 +6,7 @@
 use crate::{answers, operands, summaries_packed};
 use console::output;
 use packing::Packed;
+use std::io;
 
 // The largest buffer that operation 1A shows.
 const LARGEST_BUFFER: usize = 256;
@@ -39,59 +40,59 @@ fn pack_value(what: u8, operands: &[u8], out: &mut [u8], at: usize) -> Packed {
     }
 }
 
-pub fn pack(what: u8, operands: &[u8], space: &mut [u8]) {
+pub fn pack(rt: HostRuntime, what: u8, operands: &[u8], space: &mut [u8]) -> io::Result<()> {
     if operands.len() < 4 {
-        answers::no_vector();
-        return;
+        return answers::no_vector(rt);
     }
     let room = operands::size_at(operands, 0, 4);
     if space.len() < room {
-        answers::no_vector();
-        return;
+        return answers::no_vector(rt);
     }
     if !names_value(what, &operands[4..]) {
-        answers::no_vector();
-        return;
+        return answers::no_vector(rt);
     }
     match pack_value(what, &operands[4..], &mut space[0..room], 0) {
         Packed::To(end) => {
-            output::byte(0x00);
-            output::front(space, end);
+            output::byte(rt, 0x00)?;
+            output::front(rt, space, end)
         }
-        Packed::Refused(why) => answers::refused(why),
+        Packed::Refused(why) => answers::refused(rt, why),
     }
 }
 
-fn pack_into(what: u8, operands: &[u8], buffer: &mut [u8], at: usize) {
+fn pack_into(
+    rt: HostRuntime,
+    what: u8,
+    operands: &[u8],
+    buffer: &mut [u8],
+    at: usize,
+) -> io::Result<()> {
     match pack_value(what, operands, buffer, at) {
         Packed::To(end) => {
-            output::byte(0x00);
-            output::size(end, 4);
-            output::bytes(buffer);
+            output::byte(rt, 0x00)?;
+            output::size(rt, end, 4)?;
+            output::bytes(rt, buffer)
         }
         Packed::Refused(why) => {
-            answers::refused(why);
-            output::bytes(buffer);
+            answers::refused(rt, why)?;
+            output::bytes(rt, buffer)
         }
     }
 }
 
-pub fn pack_at(operands: &[u8]) {
+pub fn pack_at(rt: HostRuntime, operands: &[u8]) -> io::Result<()> {
     if operands.len() < 9 {
-        answers::no_vector();
-        return;
+        return answers::no_vector(rt);
     }
     let what = operands[0];
     if !names_value(what, &operands[9..]) {
-        answers::no_vector();
-        return;
+        return answers::no_vector(rt);
     }
     let at = operands::size_at(operands, 1, 4);
     let room = operands::size_at(operands, 5, 4);
     if LARGEST_BUFFER < room {
-        answers::no_vector();
-        return;
+        return answers::no_vector(rt);
     }
     let mut buffer = [0xEEu8; LARGEST_BUFFER];
-    pack_into(what, &operands[9..], &mut buffer[0..room], at);
+    pack_into(rt, what, &operands[9..], &mut buffer[0..room], at)
 }

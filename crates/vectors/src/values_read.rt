@@ -13,59 +13,60 @@
 // which 19 goes on with for the values inside: those of a container stand behind it.
 use crate::answers;
 use console::output;
+use std::io;
 use values::head::Head;
 use values::read::Reading;
 use values::walk::{Peeked, Skipped};
 
-fn show_content(kind: u8, start: usize, size: usize) {
-    output::byte(kind);
-    output::size(start, 4);
-    output::size(size, 4);
+fn show_content(rt: HostRuntime, kind: u8, start: usize, size: usize) -> io::Result<()> {
+    output::byte(rt, kind)?;
+    output::size(rt, start, 4)?;
+    output::size(rt, size, 4)
 }
 
-fn show_count(kind: u8, count: usize) {
-    output::byte(kind);
-    output::size(count, 4);
+fn show_count(rt: HostRuntime, kind: u8, count: usize) -> io::Result<()> {
+    output::byte(rt, kind)?;
+    output::size(rt, count, 4)
 }
 
-fn show(head: Head) {
+fn show(rt: HostRuntime, head: Head) -> io::Result<()> {
     match head {
-        Head::Null => output::byte(0x00),
+        Head::Null => output::byte(rt, 0x00),
         Head::Boolean(value) => {
-            output::byte(0x01);
-            output::byte(value as u8);
+            output::byte(rt, 0x01)?;
+            output::byte(rt, value as u8)
         }
         Head::Integer(number) => {
-            output::byte(0x02);
-            output::signed(number);
+            output::byte(rt, 0x02)?;
+            output::signed(rt, number)
         }
         Head::Float(bits) => {
-            output::byte(0x03);
-            output::unsigned(bits, 8);
+            output::byte(rt, 0x03)?;
+            output::unsigned(rt, bits, 8)
         }
-        Head::Bytes { start, size } => show_content(0x04, start, size),
-        Head::String { start, size } => show_content(0x05, start, size),
-        Head::List { first: _, count } => show_count(0x06, count),
-        Head::Dictionary { first: _, count } => show_count(0x07, count),
+        Head::Bytes { start, size } => show_content(rt, 0x04, start, size),
+        Head::String { start, size } => show_content(rt, 0x05, start, size),
+        Head::List { first: _, count } => show_count(rt, 0x06, count),
+        Head::Dictionary { first: _, count } => show_count(rt, 0x07, count),
         Head::Structure {
             tag,
             first: _,
             count,
         } => {
-            output::byte(0x08);
-            output::byte(tag);
-            output::size(count, 1);
+            output::byte(rt, 0x08)?;
+            output::byte(rt, tag)?;
+            output::size(rt, count, 1)
         }
     }
 }
 
-pub fn read_value(message: &[u8]) {
+pub fn read_value(rt: HostRuntime, message: &[u8]) -> io::Result<()> {
     match values::read::read_message(message) {
         Reading::Value { head, end: _ } => {
-            output::byte(0x00);
-            show(head);
+            output::byte(rt, 0x00)?;
+            show(rt, head)
         }
-        Reading::Refused { refusal, place } => answers::refused_at(refusal, place),
+        Reading::Refused { refusal, place } => answers::refused_at(rt, refusal, place),
     }
 }
 
@@ -96,35 +97,36 @@ fn next(message: &[u8], at: usize, head: Head) -> usize {
 }
 
 // Shows the value at `at`, and answers where the next marker is.
-fn step(message: &[u8], at: usize) -> usize {
+fn step(rt: HostRuntime, message: &[u8], at: usize) -> io::Result<usize> {
     match values::walk::peek(message, at) {
         Peeked::Value(head) => {
-            show(head);
-            next(message, at, head)
+            show(rt, head)?;
+            Ok(next(message, at, head))
         }
-        Peeked::Nothing => message.len(),
+        Peeked::Nothing => Ok(message.len()),
     }
 }
 
 // There are at most as many values as bytes.
-fn show_all(message: &[u8]) {
+fn show_all(rt: HostRuntime, message: &[u8]) -> io::Result<()> {
     let mut turns = message.len();
     let mut at = 0;
     while 0 < turns {
         turns -= 1;
         if message.len() <= at {
-            return;
+            return Ok(());
         }
-        at = step(message, at);
+        at = step(rt, message, at)?;
     }
+    Ok(())
 }
 
-pub fn read_values(message: &[u8]) {
+pub fn read_values(rt: HostRuntime, message: &[u8]) -> io::Result<()> {
     match values::read::read_message(message) {
         Reading::Value { head: _, end: _ } => {
-            output::byte(0x00);
-            show_all(message);
+            output::byte(rt, 0x00)?;
+            show_all(rt, message)
         }
-        Reading::Refused { refusal, place } => answers::refused_at(refusal, place),
+        Reading::Refused { refusal, place } => answers::refused_at(rt, refusal, place),
     }
 }
