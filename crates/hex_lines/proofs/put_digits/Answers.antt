@@ -10,7 +10,7 @@ pub loop-i-init : goal.loop-i-init
 loop-i-init c = (omega arith, refl, put-none _ _)
 
 pub digit_of-requires : goal.digit_of-requires
-digit_of-requires c = omega (arith, c.shared_slice_known-in-loop-i-1.given c.loop-i.i)
+digit_of-requires c = omega (arith, c.type_inv.bytes c.loop-i.i)
 
 pub bounds-out-i-in-loop-i : goal.bounds-out-i-in-loop-i
 bounds-out-i-in-loop-i c = simp length-set (omega arith)

@@ -2,7 +2,6 @@
 use mathlib.Core.Path.{◌≡◌, sym, ap, ◌∙◌}
 use Prim.Native.Nat.{ℕ, ◌+◌, ◌-◌, ◌*◌, ◌/◌}
 use native.Mathlib.Omega.{arith}
-use borrow.Author.Tests.{not-true, not-false}
 use lib.ListN.{length, drop}
 use Rattle.slices.specs.Parts.{part}
 use Rattle.utf8.specs.Private.Ascii.{ascii_run}
@@ -36,7 +35,7 @@ past_bytes-requires-then-not-is_ascii_word c = omega (arith, c.loop-at.invariant
 pub returns-then-not-is_ascii_word : goal.returns-then-not-is_ascii_word
 returns-then-not-is_ascii_word c =
     let l = c.loop-at in
-    c.past_bytes-then-not-is_ascii_word.ensures ∙ ends-among l.invariant.0 7 (sym c.is_ascii_word.ensures ∙ not-true _ c.if-not-is_ascii_word.true-raw)
+    c.past_bytes-then-not-is_ascii_word.ensures ∙ ends-among l.invariant.0 7 (sym c.is_ascii_word.ensures ∙ c.if-not-is_ascii_word.true)
 
 pub past_blocks-at-requires : goal.past_blocks-at-requires
 past_blocks-at-requires c = omega (arith, c.loop-at.invariant.0.within)
@@ -48,7 +47,7 @@ pub loop-at-preserved : goal.loop-at-preserved
 loop-at-preserved c =
     let l = c.loop-at in
     let s = c.args.bytes.now in
-    let clear = sym c.is_ascii_word.ensures ∙ not-false _ c.if-not-is_ascii_word.false-raw in
+    let clear = sym c.is_ascii_word.ensures ∙ c.if-not-is_ascii_word.false in
     let eight = in-run-past l.invariant.0 8 (tested s l.at 8 (omega (arith, l.invariant.0.within)) clear) in
     let blocks = in-run-past eight (ascii_run (drop (l.at + 8) s) / 64 * 64) (omega arith) in
     (rw c.past_blocks-at.ensures blocks, l.invariant.1)

@@ -18,7 +18,7 @@ loop-i-preserved c =
     let e : 8 * (l.i + 1) ≡ 8 * l.i + 8 = omega arith in (
       omega arith,
       rw (c.word_at-all.ensures, e)
-          (masked-next a.bytes.now a.at 8 (8 * l.i) l.all (λ j. (c.shared_slice_known-1.given j).fits) (omega arith) l.invariant.1),
+          (masked-next a.bytes.now a.at 8 (8 * l.i) l.all (λ j. (c.type_inv.bytes j).fits) (omega arith) l.invariant.1),
     )
 
 pub returns : goal.returns

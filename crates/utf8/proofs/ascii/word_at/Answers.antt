@@ -13,14 +13,14 @@ loop-i-init c = (omega arith, refl)
 pub overflow_cast-word : goal.overflow_cast-word
 overflow_cast-word c =
     let a = c.args in
-    omega (arith, c.shared_slice_known-1.given (a.at + c.loop-i.i))
+    omega (arith, c.type_inv.bytes (a.at + c.loop-i.i))
 
 pub loop-i-preserved : goal.loop-i-preserved
 loop-i-preserved c =
     let a = c.args in
     let l = c.loop-i in (
       omega arith,
-      rw l.invariant.1 (next-byte a.bytes.now a.at l.i (λ j. (c.shared_slice_known-1.given j).fits) (omega arith) (omega arith)),
+      rw l.invariant.1 (next-byte a.bytes.now a.at l.i (λ j. (c.type_inv.bytes j).fits) (omega arith) (omega arith)),
     )
 
 pub returns : goal.returns
