@@ -1,7 +1,6 @@
 -- `hex_lines::decode` meets its contract: each test is one of `decoding`'s, in its order. Assumes nothing.
 use mathlib.Core.Path.{refl, sym, ap, ◌∙◌}
 use native.Mathlib.Omega.{arith}
-use borrow.Author.Tests.{not-true, not-false}
 use Rattle.refusal.specs.Answer.{returned}
 use Rattle.hex_lines.proofs.Lines.{no_line, no_room, read, length-bytes}
 use Rattle.hex_lines.proofs.decode.Goals as goal

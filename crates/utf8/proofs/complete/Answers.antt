@@ -1,7 +1,6 @@
 -- `utf8::complete` meets its contract. The loop's invariant: i bytes of the sequence are read. Assumes nothing.
 use mathlib.Core.Path.{sym, ◌∙◌}
 use native.Mathlib.Omega.{arith}
-use borrow.Author.Tests.{not-true, not-false}
 use Rattle.utf8.proofs.Sequences.{reading, cut_off, room, no-continuation, continued, overlong, no-scalar, well-formed}
 use Rattle.utf8.proofs.complete.Goals as goal
 
