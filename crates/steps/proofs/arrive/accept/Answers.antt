@@ -23,7 +23,7 @@ pub returns-then-tag-eq-RESET : goal.returns-then-tag-eq-RESET
 returns-then-tag-eq-RESET c =
     record {
       whatever = λ streams long.
-          accept-resets ((λ (streams : List ℕ). joined c.args.control streams c.args.kinds.now c.args.counts.now c.args.qids.now) streams) c.requires long c.args.request c.state_of-state.ensures c.tag.ensures c.store.ensures
+          accept-resets ((λ (streams : List ℕ). joined c.args.control streams c.args.kinds.now c.args.counts.now c.args.qids.now) streams) c.requires long c.args.request c.state_of-state.ensures c.tag.ensures (c.store.ensures.kinds, (c.store.ensures.counts, c.store.ensures.qids))
           c.if-tag-eq-RESET.true c.is_in.ensures c.if-is_in.false c.counted-interrupted.ensures c.answer-then-tag-eq-RESET.ensures;
     }
 
@@ -34,5 +34,5 @@ pub returns : goal.returns
 returns c =
     record {
       whatever = λ streams long.
-          accept-queues ((λ (streams : List ℕ). joined c.args.control streams c.args.kinds.now c.args.counts.now c.args.qids.now) streams) c.requires long c.args.request c.state_of-state.ensures c.tag.ensures c.store-2.ensures c.if-tag-eq-RESET.false c.counted-counted-2.ensures c.answer-2.ensures;
+          accept-queues ((λ (streams : List ℕ). joined c.args.control streams c.args.kinds.now c.args.counts.now c.args.qids.now) streams) c.requires long c.args.request c.state_of-state.ensures c.tag.ensures (c.store-2.ensures.kinds, (c.store-2.ensures.counts, c.store-2.ensures.qids)) c.if-tag-eq-RESET.false c.counted-counted-2.ensures c.answer-2.ensures;
     }

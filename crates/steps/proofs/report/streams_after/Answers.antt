@@ -11,7 +11,7 @@ use Rattle.steps.proofs.report.streams_after.Goals as goal
 pub returns-in-Success : goal.returns-in-Success
 returns-in-Success c =
     let a = c.args in
-    subst (λ (o : Outcome). Laid (streams_after o a.state (open_of a.streams.now a.opened a.next) a.request) a.streams.now c.success_streams.new.1.0 c.success_streams.result)
+    subst (λ (o : Outcome). Laid (streams_after o a.state (open_of a.streams.now a.opened a.next) a.request) a.streams.now c.success_streams.new.streams c.success_streams.result)
     (sym c.in-Success.is) c.success_streams.ensures
 
 pub returns-in-More : goal.returns-in-More

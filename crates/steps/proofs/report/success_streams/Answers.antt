@@ -1,11 +1,14 @@
 -- `steps::report::success_streams` meets its contract: by the tests passed. Assumes nothing.
 use borrow.Author.Rules.{rules}
 use mathlib.Core.Path.{◌≡◌, refl, sym, ap, ◌∙◌, subst}
-use mathlib.Core.Bool.{Bool, true, ◌&&◌}
-use Prim.Native.Nat.{◌+◌, ◌<◌}
+use mathlib.Core.Bool.{Bool, true, false, ◌&&◌}
+use mathlib.Core.List.{List}
+use Prim.Native.Nat.{ℕ, ◌+◌, ◌<◌, ◌≤◌}
 use native.Mathlib.Omega.{arith}
 use lib.ListN.{length, take}
 use borrow.Author.Tests.{eq-eqb, ne_eqb}
+use Rattle.states.specs.declared.state.State.{State}
+use Rattle.states.specs.declared.request.Request.{Request}
 use Rattle.states.specs.declared.request.Asked.{Asked}
 use Rattle.states.specs.Requests.{is, in_transaction, named}
 use Rattle.bolt.specs.Requests.{RUN}
@@ -19,51 +22,41 @@ use Rattle.steps.proofs.Outcomes.{streams-by}
 use Rattle.steps.proofs.Removing.{laid-own, laid_more, laid-less}
 use Rattle.steps.proofs.report.success_streams.Goals as goal
 
--- a RUN in a transaction
-module _ (d : tie.Then3) where
-  abbrev s : tie.Start
-  s = d.before.before.before.before.before.before
+-- a RUN in a transaction has room for its stream
+roomy : (s : State) (o : Open) (r : Request) → is RUN r ≡ true → in_transaction s ≡ true → (is RUN r && is_full s o) ≡ false → (length o.numbers < 8) × (o.next < 65536)
+roomy s o r run inside free = room-for-one s o inside (sym (ap (λ (b : Bool). b && is_full s o) run) ∙ free)
 
-  run : is RUN s.args.request ≡ true
-  run = eq-eqb _ _ (sym d.before.before.before.tag.ensures ∙ d.before.before.if2.taken)
-
-  inside : in_transaction s.args.state ≡ true
-  inside = sym d.before.in-transaction.ensures ∙ d.if3.taken
-
-  room : (length (take s.args.opened s.args.streams.now) < 8) × (s.args.next < 65536)
-  room = room-for-one s.args.state (o s) inside (sym (ap (λ (b : Bool). b && is_full s.args.state (o s)) run) ∙ s.pre.1.1)
-
-  fewer : s.args.opened < 8
-  fewer = omega (arith, room, open-length s.args.streams.now s.pre.1.0 s.args.opened s.pre.0)
+fewer : (l : List ℕ) (n next : ℕ) → length l ≡ 8 → n ≤ 8 → (length (take n l) < 8) × (next < 65536) → n < 8
+fewer l n next long most room = omega (arith, open-length l long n most)
 
 -- the streams stay
-stay : (s : tie.Start) {m : Open} → o s ≡ m → Laid m s.args.streams.now s.args.streams.now (record { count = s.args.opened; next = s.args.next })
-stay s e = subst (λ (m : Open). Laid m s.args.streams.now s.args.streams.now (record { count = s.args.opened; next = s.args.next })) e (laid-own s.args.streams.now s.args.opened s.requires.1.0 s.args.next s.requires.0)
+stay : (l : List ℕ) (n next : ℕ) → length l ≡ 8 → n ≤ 8 → {m : Open} → open_of l n next ≡ m → Laid m l l (record { count = n; next = next })
+stay l n next long most e = subst (λ (m : Open). Laid m l l (record { count = n; next = next })) e (laid-own l n long next most)
 
 pub returns-then-fetches : goal.returns-then-fetches
 returns-then-fetches c =
     let a = c.args in
-    subst (λ (m : Open). Laid m a.streams.now c.remove-left.new.0 (record { count = c.remove-left.result; next = a.next }))
+    subst (λ (m : Open). Laid m a.streams.now c.remove-left.new.streams (record { count = c.remove-left.result; next = a.next }))
     (streams-by a.state a.request (sym c.fetches.ensures ∙ c.if-fetches.true) refl refl ((open_of c.args.streams.now c.args.opened c.args.next)) refl)
-    (laid-less a.streams.now a.opened a.next c.remove-left.new.0 (c.number_of-number.ensures ∙ ap (λ (x : Asked). named x a.next) c.asked_for-asked.ensures) c.remove-left.ensures)
+    (laid-less a.streams.now a.opened a.next c.remove-left.new.streams (c.number_of-number.ensures ∙ ap (λ (x : Asked). named x a.next) c.asked_for-asked.ensures) (c.remove-left.ensures.left, c.remove-left.ensures.moved))
 
 pub push-requires : goal.push-requires
-push-requires c = (fewer «Then3», (s «Then3»).pre.1.0)
+push-requires c = (fewer c.args.streams.now c.args.opened c.args.next c.requires.1.0 c.requires.0 (roomy c.args.state (open_of c.args.streams.now c.args.opened c.args.next) c.args.request (eq-eqb _ _ (sym c.tag-tag.ensures ∙ c.if-tag-eq-RUN.true)) (sym c.in_transaction.ensures ∙ c.if-in_transaction.true) c.requires.1.1), c.requires.1.0)
 
 pub overflow_add-result-then-in_transaction : goal.overflow_add-result-then-in_transaction
-overflow_add-result-then-in_transaction c = record { fits = omega (arith, room «Then3») }
+overflow_add-result-then-in_transaction c = record { fits = omega (arith, roomy c.args.state (open_of c.args.streams.now c.args.opened c.args.next) c.args.request (eq-eqb _ _ (sym c.tag-tag.ensures ∙ c.if-tag-eq-RUN.true)) (sym c.in_transaction.ensures ∙ c.if-in_transaction.true) c.requires.1.1) }
 
 pub returns-then-in_transaction : goal.returns-then-in_transaction
 returns-then-in_transaction c =
-    let a = (s c).args in
-    subst (λ (m : Open). Laid m a.streams.now c.push.new.0 (record { count = a.opened + 1; next = a.next + 1 }))
-    (streams-by a.state a.request (sym c.fetches.ensures ∙ c.if-fetches.false) (run c) (inside c) ((open_of c.args.streams.now c.args.opened c.args.next)) refl)
-    (laid_more a.streams.now a.opened (s c).requires.1.0 a.next c.push.new.0 (fewer c) c.push.ensures)
+    let a = c.args in
+    subst (λ (m : Open). Laid m a.streams.now c.push.new.streams (record { count = a.opened + 1; next = a.next + 1 }))
+    (streams-by a.state a.request (sym c.fetches.ensures ∙ c.if-fetches.false) (eq-eqb _ _ (sym c.tag-tag.ensures ∙ c.if-tag-eq-RUN.true)) (sym c.in_transaction.ensures ∙ c.if-in_transaction.true) ((open_of c.args.streams.now c.args.opened c.args.next)) refl)
+    (laid_more a.streams.now a.opened c.requires.1.0 a.next c.push.new.streams (fewer c.args.streams.now c.args.opened c.args.next c.requires.1.0 c.requires.0 (roomy c.args.state (open_of c.args.streams.now c.args.opened c.args.next) c.args.request (eq-eqb _ _ (sym c.tag-tag.ensures ∙ c.if-tag-eq-RUN.true)) (sym c.in_transaction.ensures ∙ c.if-in_transaction.true) c.requires.1.1)) c.push.ensures)
 
 pub returns-then-tag-eq-RUN : goal.returns-then-tag-eq-RUN
 returns-then-tag-eq-RUN c =
     let run = eq-eqb _ _ (sym c.tag-tag.ensures ∙ c.if-tag-eq-RUN.true) in
-    stay c (streams-by c.args.state c.args.request (sym c.fetches.ensures ∙ c.if-fetches.false) run (sym c.in_transaction.ensures ∙ c.if-in_transaction.false) ((open_of c.args.streams.now c.args.opened c.args.next)) (run-begins c.args.request run))
+    stay c.args.streams.now c.args.opened c.args.next c.requires.1.0 c.requires.0 (streams-by c.args.state c.args.request (sym c.fetches.ensures ∙ c.if-fetches.false) run (sym c.in_transaction.ensures ∙ c.if-in_transaction.false) ((open_of c.args.streams.now c.args.opened c.args.next)) (run-begins c.args.request run))
 
 pub returns-then-tag-eq-BEGIN : goal.returns-then-tag-eq-BEGIN
 returns-then-tag-eq-BEGIN c =
@@ -73,4 +66,4 @@ returns-then-tag-eq-BEGIN c =
     (record { count = refl; next = refl; numbers = refl })
 
 pub returns : goal.returns
-returns c = stay c (streams-by c.args.state c.args.request (sym c.fetches.ensures ∙ c.if-fetches.false) (ne_eqb _ _ (λ e. c.if-tag-eq-RUN.false (c.tag-tag.ensures ∙ e))) refl ((open_of c.args.streams.now c.args.opened c.args.next)) (ne_eqb _ _ (λ e. c.if-tag-eq-BEGIN.false (c.tag-tag.ensures ∙ e))))
+returns c = stay c.args.streams.now c.args.opened c.args.next c.requires.1.0 c.requires.0 (streams-by c.args.state c.args.request (sym c.fetches.ensures ∙ c.if-fetches.false) (ne_eqb _ _ (λ e. c.if-tag-eq-RUN.false (c.tag-tag.ensures ∙ e))) refl ((open_of c.args.streams.now c.args.opened c.args.next)) (ne_eqb _ _ (λ e. c.if-tag-eq-BEGIN.false (c.tag-tag.ensures ∙ e))))
