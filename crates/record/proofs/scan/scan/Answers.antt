@@ -3,6 +3,7 @@ use borrow.Author.Rules.{rules}
 use borrow.Author.Tests.{ne_eqb}
 use mathlib.Core.Path.{◌≡◌, refl, sym, ap, ◌∙◌}
 use mathlib.Core.Bool.{true, not}
+use native.Mathlib.Omega.{arith}
 use Rattle.record.specs.Private.Seen.{seen_of}
 use Rattle.record.specs.Ring.{lined, place_at, is_reset}
 use Rattle.record.proofs.Numbers.{both-held}
@@ -19,7 +20,7 @@ returns-then-are_out_of_range c =
     let g = place_at a.kinds.now a.counts.now a.qids.now in
     let p = g l.at in
     let e = c.are_out_of_range.ensures
-    ∙ both-held numbers_out p.n p.qid (record { sfits = c.n-1.given }) (record { sfits = c.qid-1.given }) in
+    ∙ both-held numbers_out p.n p.qid (record { sfits = omega arith }) (record { sfits = omega arith }) in
     sym
     (l.invariant
     ∙ pass-wrong l.reset g l.at l.left c.loop-left-test.true
@@ -32,7 +33,7 @@ loop-left-preserved-then-kind-eq-PULL c =
     let g = place_at a.kinds.now a.counts.now a.qids.now in
     let p = g l.at in
     let e = c.are_out_of_range.ensures
-    ∙ both-held numbers_out p.n p.qid (record { sfits = c.n-1.given }) (record { sfits = c.qid-1.given }) in
+    ∙ both-held numbers_out p.n p.qid (record { sfits = omega arith }) (record { sfits = omega arith }) in
     l.invariant
     ∙ pass_on l.reset g l.at l.left c.behind-at.result l.reset c.loop-left-test.true
     (pull-wrong p c.if-kind-eq-PULL.true ∙ sym e ∙ c.if-are_out_of_range.false)
@@ -46,7 +47,7 @@ returns-then-are_out_of_range-2 c =
     let g = place_at a.kinds.now a.counts.now a.qids.now in
     let p = g l.at in
     let e = c.are_out_of_range-then-kind-eq-DISCARD.ensures
-    ∙ both-held numbers_out p.n p.qid (record { sfits = c.n-then-kind-eq-DISCARD-1.given }) (record { sfits = c.qid-then-kind-eq-DISCARD-1.given }) in
+    ∙ both-held numbers_out p.n p.qid (record { sfits = omega arith }) (record { sfits = omega arith }) in
     sym
     (l.invariant
     ∙ pass-wrong l.reset g l.at l.left c.loop-left-test.true
@@ -59,7 +60,7 @@ loop-left-preserved-then-kind-eq-DISCARD c =
     let g = place_at a.kinds.now a.counts.now a.qids.now in
     let p = g l.at in
     let e = c.are_out_of_range-then-kind-eq-DISCARD.ensures
-    ∙ both-held numbers_out p.n p.qid (record { sfits = c.n-then-kind-eq-DISCARD-1.given }) (record { sfits = c.qid-then-kind-eq-DISCARD-1.given }) in
+    ∙ both-held numbers_out p.n p.qid (record { sfits = omega arith }) (record { sfits = omega arith }) in
     l.invariant
     ∙ pass_on l.reset g l.at l.left c.behind-at.result l.reset c.loop-left-test.true
     (discard-wrong p c.if-kind-eq-DISCARD.true ∙ sym e ∙ c.if-are_out_of_range-2.false)
@@ -87,7 +88,7 @@ returns-then-not-is_request c =
     sym
     (l.invariant
     ∙ pass-wrong l.reset g l.at l.left c.loop-left-test.true
-    (other-wrong p (sym (ap not c.is_request.ensures) ∙ c.if-not-is_request.true-raw)))
+    (other-wrong p (ap not (sym c.is_request.ensures ∙ c.if-not-is_request.true))))
 
 pub loop-left-preserved : goal.loop-left-preserved
 loop-left-preserved c =
@@ -97,7 +98,7 @@ loop-left-preserved c =
     let p = g l.at in
     l.invariant
     ∙ pass_on l.reset g l.at l.left c.behind-at.result l.reset c.loop-left-test.true
-    (other-right p c.if-kind-eq-PULL.false c.if-kind-eq-DISCARD.false (sym (ap not c.is_request.ensures) ∙ c.if-not-is_request.false-raw))
+    (other-right p c.if-kind-eq-PULL.false c.if-kind-eq-DISCARD.false (ap not (sym c.is_request.ensures ∙ c.if-not-is_request.false)))
     (flag-stays l.reset p (ne_eqb _ _ c.if-kind-eq-RESET.false))
     c.behind-at.ensures
 

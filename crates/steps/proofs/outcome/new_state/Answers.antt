@@ -9,7 +9,9 @@ use Rattle.states.proofs.Rows.{after-failure, after_more}
 use Rattle.steps.proofs.outcome.new_state.Goals as goal
 
 pub returns-in-Success : goal.returns-in-Success
-returns-in-Success c = let a = c.args in c.after_success.ensures ∙ ap (λ (o : Outcome). new_state a.state (kind_of a.request) (response o a.request a.left)) (sym c.in-Success.is)
+returns-in-Success c =
+    let a = c.args in
+    c.after_success.ensures ∙ ap (λ (o : Outcome). new_state a.state (kind_of a.request) (response o a.request a.left)) (sym c.in-Success.is)
 
 pub returns-in-More : goal.returns-in-More
 returns-in-More c =

@@ -6,7 +6,9 @@ use Rattle.steps.proofs.Outcomes.{summary-by}
 use Rattle.steps.proofs.outcome.success_summary.Goals as goal
 
 pub returns-then-fetches : goal.returns-then-fetches
-returns-then-fetches c = let a = c.args in summary-by a.state a.request (sym c.fetches.ensures ∙ c.if-fetches.true) refl refl a.next
+returns-then-fetches c =
+    let a = c.args in
+    summary-by a.state a.request (sym c.fetches.ensures ∙ c.if-fetches.true) refl refl a.next
 
 pub returns-then-in_transaction : goal.returns-then-in_transaction
 returns-then-in_transaction c =

@@ -4,4 +4,6 @@ use Rattle.steps.proofs.Outcomes.{beside}
 use Rattle.steps.proofs.report.sum_up.Goals as goal
 
 pub returns : goal.returns
-returns c = let a = c.args in beside a.control a.state a.opened a.left a.summary c.answer.ensures c.answered.ensures
+returns c =
+    let a = c.args in
+    beside a.control a.state a.opened a.left a.summary c.answer.ensures c.answered.ensures
