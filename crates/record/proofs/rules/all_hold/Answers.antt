@@ -1,11 +1,10 @@
 -- `record::rules::all_hold` meets its contract: by the tests passed. Assumes nothing.
-use borrow.Author.Rules.{rules}
-use mathlib.Core.Path.{◌≡◌, refl, sym, ap, ◌∙◌}
-use mathlib.Core.Bool.{true, ◌&&◌}
+use mathlib.Core.Path.{refl, sym, ap, ◌∙◌}
+use mathlib.Core.Bool.{◌&&◌}
 use Rattle.states.specs.declared.state.State.{State}
 use Rattle.states.specs.Rules.{open_rule, counts_rule, numbers_rule}
-use Rattle.record.specs.Record.{state_in, open_in, places_in, bounded}
-use Rattle.record.specs.Private.Seen.{seen_of, seen_holds}
+use Rattle.record.specs.Record.{open_in}
+use Rattle.record.specs.Private.Seen.{seen_holds}
 use Rattle.record.proofs.Keeping.{bounds}
 use Rattle.record.proofs.Standing.{keeps-by}
 use Rattle.record.proofs.rules.all_hold.Goals as goal

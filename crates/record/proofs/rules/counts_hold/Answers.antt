@@ -1,5 +1,4 @@
 -- `record::rules::counts_hold` meets its contract: by the tests passed. Assumes nothing.
-use borrow.Author.Rules.{rules}
 use mathlib.Core.Path.{sym, ◌∙◌}
 use Rattle.states.proofs.Standing.{counts-high, counts-less, counts-defunct, counts-sum}
 use Rattle.record.proofs.rules.counts_hold.Goals as goal

@@ -1,5 +1,4 @@
 -- `record::rules::streams_hold` meets its contract: by the tests passed. Assumes nothing.
-use borrow.Author.Rules.{rules}
 use mathlib.Core.Path.{sym, ◌∙◌}
 use mathlib.Core.Bool.{beq}
 use Prim.Native.Nat.{◌≤◌}

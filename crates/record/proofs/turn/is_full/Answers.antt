@@ -1,5 +1,4 @@
 -- `record::turn::is_full` meets its contract: by the tests passed. Assumes nothing.
-use borrow.Author.Rules.{rules}
 use mathlib.Core.Path.{sym, ◌∙◌}
 use mathlib.Core.Bool.{◌&&◌, ◌||◌}
 use lib.Dec.{leb}

@@ -1,15 +1,7 @@
 -- `record::turn::is_handed_over` meets its contract: by the tests passed. Assumes nothing.
-use borrow.Author.Rules.{rules}
-use mathlib.Core.Path.{◌≡◌, refl, sym, ap, ◌∙◌}
-use mathlib.Core.Bool.{true, false}
+use mathlib.Core.Path.{refl, sym, ap, ◌∙◌}
 use lib.Dec.{leb}
 use borrow.Author.Tests.{eq-eqb, ne_eqb}
-use Rattle.states.specs.declared.state.State.{State}
-use Rattle.states.specs.declared.request.Request.{Request}
-use Rattle.bolt.specs.Requests.{RUN}
-use Rattle.states.specs.Requests.{kind_of, is}
-use Rattle.states.specs.Appendix.{hands_over}
-use Rattle.states.specs.Table.{Open}
 use Rattle.states.proofs.Turns.{full_by, unhanded, run-handed, fetch-handed, other-handed}
 use Rattle.record.specs.Record.{open_of}
 use Rattle.record.proofs.turn.is_handed_over.Goals as goal

@@ -1,13 +1,9 @@
 -- `steps::arrive::step` meets its contract: by the tests passed. Assumes nothing.
-use borrow.Author.Rules.{rules}
-use mathlib.Core.Path.{◌≡◌, ap, ◌∙◌}
-use mathlib.Core.Bool.{true, false}
+use mathlib.Core.Path.{ap, ◌∙◌}
 use Rattle.states.specs.declared.state.State.TheVariants.{Defunct}
-use Rattle.states.specs.Requests.{in_state}
 use Rattle.states.specs.Table.{arrive_t}
-use Rattle.record.specs.declared.record.Connection.{Connection}
-use Rattle.record.specs.Record.{joined, state_in, kept, keeps_rules}
-use Rattle.record.specs.Calls.{After, storing}
+use Rattle.record.specs.Record.{joined, kept}
+use Rattle.record.specs.Calls.{storing}
 use Rattle.record.proofs.Standing.{kept-bounded}
 use Rattle.steps.specs.declared.after.AfterArrive.{AfterArrive}
 use Rattle.steps.specs.Steps.{told_arrive}

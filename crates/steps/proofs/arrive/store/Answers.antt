@@ -1,5 +1,4 @@
 -- `steps::arrive::store` meets its contract: each number is stored as it is. Assumes nothing.
-use borrow.Author.Rules.{rules}
 use mathlib.Core.Path.{ap, ◌∙◌}
 use lib.ListN.{set}
 use mir.Syntax.{w64}

@@ -1,13 +1,10 @@
 -- `steps::close::step` meets its contract: by the tests passed. Assumes nothing.
-use borrow.Author.Rules.{rules}
-use mathlib.Core.Path.{◌≡◌, ap, ◌∙◌}
-use mathlib.Core.Bool.{true}
+use mathlib.Core.Path.{ap, ◌∙◌}
 use Rattle.refusal.specs.Answer.{returned}
 use Rattle.states.specs.declared.state.State.TheVariants.{Defunct}
 use Rattle.states.specs.Table.{close_t, defunct, closed}
-use Rattle.record.specs.declared.record.Connection.{Connection}
-use Rattle.record.specs.Record.{joined, kept, keeps_rules}
-use Rattle.record.specs.Calls.{After, nowhere}
+use Rattle.record.specs.Record.{joined, kept}
+use Rattle.record.specs.Calls.{nowhere}
 use Rattle.steps.specs.declared.after.AfterClose.{AfterClose}
 use Rattle.steps.specs.Steps.{told_close}
 use Rattle.steps.proofs.Calls.{breaks, keeps, state-test, broken, refuse-defunct}

@@ -1,5 +1,4 @@
 -- `steps::outcome::after_last` meets its contract: by the tests passed. Assumes nothing.
-use borrow.Author.Rules.{rules}
 use mathlib.Core.Path.{refl, sym, ◌∙◌}
 use borrow.Author.Tests.{eq-eqb, ne_eqb}
 use Rattle.steps.proofs.Outcomes.{last-by}

@@ -1,5 +1,4 @@
 -- `steps::outcome::after_success` meets its contract: in each arm the match told which request it is. Assumes nothing.
-use borrow.Author.Rules.{rules}
 use mathlib.Core.Path.{refl, sym, ap, ◌∙◌}
 use mathlib.Core.Bool.{Bool, cond}
 use Rattle.states.specs.declared.state.State.TheVariants.{Ready, Streaming, TxReady, TxStreaming}

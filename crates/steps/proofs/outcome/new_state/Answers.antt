@@ -1,5 +1,4 @@
 -- `steps::outcome::new_state` meets its contract: in each arm the match told the outcome. Assumes nothing.
-use borrow.Author.Rules.{rules}
 use mathlib.Core.Path.{sym, ap, ◌∙◌}
 use Rattle.states.specs.declared.answers.Outcome.{Outcome}
 use Rattle.states.specs.Requests.{kind_of}

@@ -1,17 +1,8 @@
 -- `steps::report::report_first` meets its contract: by the tests passed. Assumes nothing.
-use borrow.Author.Rules.{rules}
-use mathlib.Core.Path.{◌≡◌, refl, sym, ap, ◌∙◌}
-use mathlib.Core.Bool.{true, false, ◌&&◌}
-use Rattle.states.specs.declared.state.State.{State}
-use Rattle.states.specs.declared.state.State.TheVariants.{Interrupted}
-use Rattle.states.specs.declared.request.Request.{Request}
-use Rattle.states.specs.Requests.{kind_of, is, in_state}
-use Rattle.bolt.specs.Requests.{RUN}
-use Rattle.states.specs.Appendix.{hands_over}
-use Rattle.states.specs.Table.{is_full, fitting}
-use Rattle.record.specs.Ring.{request_in, place_at}
-use Rattle.record.specs.Record.{state_in, open_in}
-use Rattle.record.proofs.Keeping.{Bounds, bounds}
+use mathlib.Core.Path.{refl, sym, ap, ◌∙◌}
+use mathlib.Core.Bool.{true, false}
+use Rattle.record.specs.Record.{state_in}
+use Rattle.record.proofs.Keeping.{bounds}
 use Rattle.steps.specs.declared.after.AfterReport.{AfterReport}
 use Rattle.steps.specs.Steps.{told_report}
 use Rattle.steps.proofs.Outcomes.{handed, unfitting, interrupted, settles}

@@ -1,5 +1,4 @@
 -- `steps::report::step` meets its contract: by the tests passed. Assumes nothing.
-use borrow.Author.Rules.{rules}
 use mathlib.Core.Path.{◌≡◌, ap, ◌∙◌}
 use mathlib.Core.Bool.{Bool, true, false, cond}
 use Prim.Native.Nat.{◌<◌}
@@ -11,8 +10,8 @@ use Rattle.states.specs.declared.answers.Outcome.{Outcome}
 use Rattle.states.specs.Requests.{in_state}
 use Rattle.states.specs.Table.{Done, report_t, report_first}
 use Rattle.record.specs.declared.record.Connection.{Connection}
-use Rattle.record.specs.Record.{joined, state_in, is_in_flight, waiting_in, kept, keeps_rules}
-use Rattle.record.specs.Calls.{After, nowhere, carried, report_of}
+use Rattle.record.specs.Record.{joined, state_in, is_in_flight, kept, keeps_rules}
+use Rattle.record.specs.Calls.{nowhere, carried, report_of}
 use Rattle.record.proofs.Standing.{kept-bounded, next-most, room, flies}
 use Rattle.steps.specs.declared.after.AfterReport.{AfterReport}
 use Rattle.steps.specs.Steps.{told_report}

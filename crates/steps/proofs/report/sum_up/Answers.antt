@@ -1,5 +1,4 @@
 -- `steps::report::sum_up` meets its contract: the answer is made beside the control. Assumes nothing.
-use borrow.Author.Rules.{rules}
 use Rattle.steps.proofs.Outcomes.{beside}
 use Rattle.steps.proofs.report.sum_up.Goals as goal
 

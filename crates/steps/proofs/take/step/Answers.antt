@@ -1,15 +1,11 @@
 -- `steps::take::step` meets its contract: by the tests passed. Assumes nothing.
-use borrow.Author.Rules.{rules}
-use mathlib.Core.Path.{◌≡◌, ap, ◌∙◌}
-use mathlib.Core.Bool.{true, false}
+use mathlib.Core.Path.{ap, ◌∙◌}
 use Prim.Native.Nat.{◌<◌}
 use native.Mathlib.Omega.{arith}
 use Rattle.states.specs.declared.state.State.TheVariants.{Defunct}
-use Rattle.states.specs.Requests.{in_state}
 use Rattle.states.specs.Table.{take_t}
-use Rattle.record.specs.declared.record.Connection.{Connection}
-use Rattle.record.specs.Record.{joined, state_in, kept, keeps_rules}
-use Rattle.record.specs.Calls.{After, nowhere}
+use Rattle.record.specs.Record.{joined, kept}
+use Rattle.record.specs.Calls.{nowhere}
 use Rattle.record.proofs.Standing.{kept-bounded, room}
 use Rattle.steps.specs.declared.after.AfterTake.{AfterTake}
 use Rattle.steps.specs.Steps.{told_take}

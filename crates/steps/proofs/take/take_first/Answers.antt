@@ -1,9 +1,7 @@
 -- `steps::take::take_first` meets its contract: in each arm the match told the first request's turn. Assumes nothing.
-use borrow.Author.Rules.{rules}
 use mathlib.Core.Bool.{true, false}
-use Rattle.record.specs.declared.record.Connection.{Connection}
 use Rattle.record.specs.Record.{joined}
-use Rattle.steps.proofs.Leaving.{Turned, turn-closes, turn-resets, turn-ignored, turn-hands, turn-full, turn-unknown}
+use Rattle.steps.proofs.Leaving.{turn-closes, turn-resets, turn-ignored, turn-hands, turn-full, turn-unknown}
 use Rattle.steps.proofs.take.take_first.Goals as goal
 
 pub returns-then-has_reset : goal.returns-then-has_reset
