@@ -1,8 +1,6 @@
 -- `trial::main` lends as much memory as `serve` asks for. Assumes nothing.
-use Prim.Native.Nat.{ℕ}
-use native.Mathlib.Omega.{arith}
+use Rattle.std.proofs.Common.{ℕ, arith}
 use lib.ListN.{length-replicate}
-use borrow.Author.Rules.{rules}
 use Rattle.trial.proofs.main.Goals as goal
 
 pub serve-requires : goal.serve-requires
