@@ -1,5 +1,5 @@
 -- The readers of `values::value` meet their contracts. Assumes nothing.
-use Rattle.std.proofs.Common.{◌≡◌, ℕ, ◌+◌, ◌-◌, ◌*◌, ◌≤◌, ◌<◌, List, length, take, refl, sym, ap, ◌∙◌, subst, arith}
+use Rattle.std.proofs.Common.{◌≡◌, ℕ, ◌+◌, ◌*◌, ◌≤◌, ◌<◌, List, length, take, refl, sym, ap, ◌∙◌, subst, arith}
 use Rattle.std.proofs.Math.ListN.{length-set}
 use Rattle.markers.specs.Extents.{extent_at}
 use Rattle.values.specs.Decode.{value_at, key_at}
@@ -12,7 +12,7 @@ use Rattle.values.specs.declared.keys.Key.TheVariants as Y
 use Rattle.markers.proofs.Extents.{Inside, extent-inside, room_for}
 use Rattle.values.proofs.KeySearch.{KeyRead, key-read, key-refused}
 use Rattle.values.proofs.Scratch.{take_less, length-keep, take-keep, keep, keys_kept, inside-kept}
-use Rattle.values.proofs.Steps.{step-to, step-refused, value-bounds, by-leaf, by-refused, container-as, by-items, by_entries_lem, ItemsLeft, items-none, items-done, items-next, items-stop, EntriesLeft, entries_none, entries-done, entries-stop, entries-halt, entries_next, no-tag, by-fields}
+use Rattle.values.proofs.Steps.{step-to, step-refused, value-bounds, by-leaf, by-refused, container-as, by-items, by_entries_lem, items-none, items-done, items-next, items-stop, EntriesLeft, entries_none, entries-done, entries-stop, entries-halt, entries_next, no-tag, by-fields}
 use Rattle.values.proofs.value.+dictionary_list_structure_value.Goals as goal
 
 -- ---- value
