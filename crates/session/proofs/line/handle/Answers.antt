@@ -1,9 +1,7 @@
 -- `line::handle` meets its contract: by the room. Assumes nothing.
-use mathlib.Core.Path.{◌≡◌}
 use native.Mathlib.Omega.{arith}
-use borrow.Author.Rules.{rules}
 use lib.ListN.{length}
-use Rattle.session.specs.Session.{Session, Next, session_in, next_of, written}
+use Rattle.session.specs.Session.{session_in, next_of}
 use Rattle.session.proofs.Replies.{handled, unmoved, moved, counted, copies}
 use Rattle.session.proofs.line.handle.Goals as goal
 

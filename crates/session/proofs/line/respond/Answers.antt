@@ -1,14 +1,10 @@
 -- `line::respond` meets its contract: by why the reply ended. Assumes nothing.
 use mathlib.Core.Path.{refl}
-use Prim.Native.Nat.{◌≤◌}
 use native.Mathlib.Omega.{arith}
-use borrow.Author.Rules.{rules}
-use lib.ListN.{length}
 use Rattle.record.specs.declared.record.Control.{Control}
-use Rattle.record.specs.declared.record.Connection.{Connection}
 use Rattle.record.specs.Record.{joined}
 use Rattle.serving.specs.declared.Ending.TheVariants as E
-use Rattle.session.specs.Session.{Session, session_in, next_of, written}
+use Rattle.session.specs.Session.{session_in}
 use Rattle.session.proofs.Room.{room}
 use Rattle.session.proofs.Replies.{ends-quietly, refusal-fits, refusal-size, ends-refused}
 use Rattle.session.proofs.line.respond.Goals as goal

@@ -1,12 +1,8 @@
 -- `receive::receive_frame` meets its contract: what was read stands in front of the buffer. Assumes nothing.
 use mathlib.Core.Path.{sym, ap, ◌∙◌}
-use Prim.Native.Nat.{ℕ}
 use native.Mathlib.Omega.{arith}
-use borrow.Author.Rules.{rules}
 use lib.ListN.{length}
-use Rattle.refusal.specs.Answer.{Answer}
 use Rattle.handshake.specs.Version.{keeps_alive}
-use Rattle.framing.specs.Feed.{Reading}
 use Rattle.framing.specs.Reading.{frame_of, told}
 use Rattle.framing.proofs.Fitting.{told-fits}
 use Rattle.session.proofs.Receiving.{message-more, message-alone, keep-alive-more, keep-alive-alone, frame_refused}

@@ -1,7 +1,6 @@
 -- `receive::receive_handshake` meets its contract: the buffer holds the bytes of any line. Assumes nothing.
 use mathlib.Core.Path.{◌≡◌, sym, ap, ◌∙◌}
 use native.Mathlib.Omega.{arith}
-use borrow.Author.Rules.{rules}
 use Rattle.refusal.specs.Answer.{returned, counted}
 use Rattle.hex_lines.specs.Hex.{bytes_told, decoding}
 use Rattle.hex_lines.proofs.Lines.{decoded-fits}

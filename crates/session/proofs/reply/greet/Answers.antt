@@ -1,12 +1,8 @@
 -- `reply::greet` meets its contract: by the handshake's answer, and by the number of its refusal. Assumes nothing.
-use mathlib.Core.Path.{◌≡◌, refl, sym, ap, ◌∙◌}
+use mathlib.Core.Path.{refl, sym, ap, ◌∙◌}
 use native.Mathlib.Omega.{arith}
-use borrow.Author.Rules.{rules}
 use lib.ListN.{length}
-use Rattle.refusal.specs.Answer.{refused}
-use Rattle.refusal.specs.Numbers.{number_of}
 use Rattle.handshake.specs.Negotiation.{told as agreed}
-use Rattle.session.specs.Receiving.{handshake_in}
 use Rattle.session.proofs.Replies.{agrees_on, away-zeros, away-quiet}
 use Rattle.session.proofs.reply.greet.Goals as goal
 

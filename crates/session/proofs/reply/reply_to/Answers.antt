@@ -1,8 +1,6 @@
 -- `reply::reply_to` meets its contract: by the session's phase, and by what the line brings. Assumes nothing.
 use mathlib.Core.Path.{refl, sym, ap, ◌∙◌}
-use borrow.Author.Rules.{rules}
 use Rattle.record.specs.declared.record.Control.{Control}
-use Rattle.record.specs.declared.record.Connection.{Connection}
 use Rattle.record.specs.Record.{joined}
 use Rattle.serving.specs.declared.Ending.TheVariants as E
 use Rattle.session.specs.Private.Receiving.{told}

@@ -1,6 +1,5 @@
 -- `serve::request` meets its contract: in each arm the match told what arrive answered. Assumes nothing.
 use mathlib.Core.Path.{ap}
-use borrow.Author.Rules.{rules}
 use Rattle.states.specs.Answers.{told_arrival}
 use Rattle.record.specs.Record.{joined}
 use Rattle.serving.specs.declared.Ending.TheVariants as E

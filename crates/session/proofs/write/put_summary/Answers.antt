@@ -1,6 +1,6 @@
 -- `write::put_summary` meets its contract: a summary is shorter than a chunk, so that neither writer refuses it. Assumes nothing.
 use mathlib.Core.Path.{◌≡◌, sym, ap}
-use Prim.Native.Nat.{ℕ, ◌+◌, ◌-◌}
+use Prim.Native.Nat.{◌-◌}
 use native.Mathlib.Omega.{arith}
 use lib.ListN.{length, take, replicate}
 use Rattle.summaries.specs.Summaries.{pack_summary}
