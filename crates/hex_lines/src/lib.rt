@@ -25,6 +25,9 @@ pub enum Encoded {
 
 const DIGITS: [u8; 16] = *b"0123456789ABCDEF";
 
+// A line has at most so many characters.
+const MOST_CHARACTERS: usize = 40000;
+
 fn is_digit(c: u8) -> bool
     ensures { result ≡ is_digit c }
 {
@@ -65,7 +68,7 @@ fn other_than_digit(c: u8) -> u8
 fn is_line(line: &[u8]) -> bool
     ensures { result ≡ is_line line.now }
 {
-    if 40000 < line.len() {
+    if MOST_CHARACTERS < line.len() {
         return false;
     }
     if line.len() % 2 != 0 {

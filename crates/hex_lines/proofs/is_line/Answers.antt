@@ -4,14 +4,14 @@ use native.Mathlib.Omega.{arith}
 use Rattle.hex_lines.proofs.Lines.{line-long, line-odd, line-even, seen_none, seen_next, seen_all}
 use Rattle.hex_lines.proofs.is_line.Goals as goal
 
-pub returns-then-line-gt40000 : goal.returns-then-line-gt40000
-returns-then-line-gt40000 c = sym (line-long _ c.if-line-gt40000.true)
+pub returns-then-line-gt-MOST_CHARACTERS : goal.returns-then-line-gt-MOST_CHARACTERS
+returns-then-line-gt-MOST_CHARACTERS c = sym (line-long _ c.if-line-gt-MOST_CHARACTERS.true)
 
 pub returns-then-line-ne0 : goal.returns-then-line-ne0
-returns-then-line-ne0 c = sym (line-odd _ c.if-line-gt40000.false c.if-line-ne0.true)
+returns-then-line-ne0 c = sym (line-odd _ c.if-line-gt-MOST_CHARACTERS.false c.if-line-ne0.true)
 
 pub loop-i-init : goal.loop-i-init
-loop-i-init c = (omega arith, seen_none _ (line-even _ c.if-line-gt40000.false c.if-line-ne0.false))
+loop-i-init c = (omega arith, seen_none _ (line-even _ c.if-line-gt-MOST_CHARACTERS.false c.if-line-ne0.false))
 
 pub loop-i-preserved : goal.loop-i-preserved
 loop-i-preserved c =
