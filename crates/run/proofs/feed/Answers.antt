@@ -3,11 +3,9 @@ use mathlib.Core.Path.{◌≡◌, refl}
 use Prim.Native.Nat.{◌-◌}
 use native.Mathlib.Omega.{arith}
 use borrow.Author.Rules.{rules}
-use lib.ListN.{length, take}
-use Rattle.lines.specs.Lines.{first_lines}
-use Rattle.lines.specs.Blocks.{cut}
+use lib.ListN.{length}
 use Rattle.run.specs.Run.{progress_of, portion}
-use Rattle.run.proofs.Feeding.{gives_all, lines_none, Feeding, feeding-none, feeding-room, feeding-taken, feeding-written, feeding-on, feeding-done, feeding-out}
+use Rattle.run.proofs.Feeding.{gives_all, lines_none, feeding-none, feeding-room, feeding-taken, feeding-written, feeding-on, feeding-done, feeding-out}
 use Rattle.run.proofs.feed.Goals as goal
 
 pub loop-left-init : goal.loop-left-init

@@ -1,6 +1,5 @@
 -- `run::feed_line` meets its contract: by whether the line ends in the block. Assumes nothing.
 use native.Mathlib.Omega.{arith}
-use borrow.Author.Rules.{rules}
 use borrow.Author.Tests.{not-true, not-false}
 use Rattle.run.specs.Run.{progress_of}
 use Rattle.run.proofs.Lines.{line-inside, begins, ends}

@@ -1,5 +1,4 @@
 -- `run::finish` meets its contract: by whether a line has begun. Assumes nothing.
-use borrow.Author.Rules.{rules}
 use Rattle.run.specs.Run.{progress_of}
 use Rattle.run.proofs.Feeding.{finished, finishes}
 use Rattle.run.proofs.finish.Goals as goal

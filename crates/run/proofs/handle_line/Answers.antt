@@ -1,7 +1,6 @@
 -- `run::handle_line` meets its contract: by whether the run goes on, and by what the handler answers. Assumes nothing.
 use mathlib.Core.Path.{sym, ap, ◌∙◌}
 use lib.ListN.{length}
-use borrow.Author.Rules.{rules}
 use Rattle.session.specs.Session.{session_in, told}
 use Rattle.run.proofs.Lines.{passed_over, as-renewed, handles, not-refused}
 use Rattle.run.proofs.handle_line.Goals as goal
