@@ -62,31 +62,24 @@ module _ (c : ℕ) (d : is_digit c ≡ true) where
   pub digit_value : digit_of (value_of c) ≡ c
   digit_value = eqb-true _ _ ((and-eq-true_iff (ltb (value_of c) 16) _).0 small-and-back).1
 
--- what holds of a value below 16, and is computed at each: its digit by arithmetic, that this is one, and of that value
+-- what holds of a value below 16, and is computed at each: it has a digit, of that value
 value_test : ℕ → Bool
-value_test n = eqb (0x30 + n + 7 * (n / 10)) (digit_of n) && (is_digit (digit_of n) && eqb (value_of (digit_of n)) n)
+value_test n = is_digit (digit_of n) && eqb (value_of (digit_of n)) n
 
 values-tested : every value_test 16 ≡ true
 unfolding value_test is_digit value_of digit_of
 values-tested = refl
 
 module _ (n : ℕ) (h : n < 16) where
-  valued : value_test n ≡ true
+  valued : (is_digit (digit_of n) && eqb (value_of (digit_of n)) n) ≡ true
+  unfolding value_test
   valued = below value_test 16 values-tested n h
 
-  pub digit-sum : 0x30 + n + 7 * (n / 10) ≡ digit_of n
-  unfolding value_test
-  digit-sum = eqb-true _ _ ((and-eq-true_iff (eqb (0x30 + n + 7 * (n / 10)) (digit_of n)) _).0 valued).0
-
-  is-and-back : (is_digit (digit_of n) && eqb (value_of (digit_of n)) n) ≡ true
-  unfolding value_test
-  is-and-back = ((and-eq-true_iff (eqb (0x30 + n + 7 * (n / 10)) (digit_of n)) _).0 valued).1
-
   pub digit-is : is_digit (digit_of n) ≡ true
-  digit-is = ((and-eq-true_iff (is_digit (digit_of n)) _).0 is-and-back).0
+  digit-is = ((and-eq-true_iff (is_digit (digit_of n)) _).0 valued).0
 
   pub value-digit : value_of (digit_of n) ≡ n
-  value-digit = eqb-true _ _ ((and-eq-true_iff (is_digit (digit_of n)) _).0 is-and-back).1
+  value-digit = eqb-true _ _ ((and-eq-true_iff (is_digit (digit_of n)) _).0 valued).1
 
 -- ---- a line
 -- one digit more, and none

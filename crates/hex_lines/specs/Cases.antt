@@ -1,5 +1,5 @@
 -- Lines at the edges. Assumes nothing.
-use Rattle.std.specs.Prelude.{◌-◌, [], ◌∷◌, ◌≡◌, refl}
+use Rattle.std.specs.Prelude.{[], ◌∷◌, ◌≡◌, refl}
 use Rattle.refusal.specs.Answer.{returned, refused}
 use Rattle.hex_lines.specs.Hex.{is_digit, value_of, all_digits, is_line, to_bytes, decoding}
 

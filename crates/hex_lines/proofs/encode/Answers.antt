@@ -1,6 +1,5 @@
 -- `hex_lines::encode` meets its contract: its test is that of `encoding`. Assumes nothing.
 use mathlib.Core.Path.{refl, sym, ap}
-use borrow.Author.Rules.{rules}
 use Rattle.refusal.specs.Answer.{returned}
 use Rattle.hex_lines.proofs.Lines.{no-room-for-digits, written, length_digits}
 use Rattle.hex_lines.proofs.encode.Goals as goal

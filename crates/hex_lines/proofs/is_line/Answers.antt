@@ -1,10 +1,7 @@
 -- `hex_lines::is_line` meets its contract. The loop's invariant: the line is one if what was seen and what is left of it are digits. Assumes nothing.
 use mathlib.Core.Path.{sym}
-use Prim.Native.Nat.{◌-◌, ◌≤◌}
 use native.Mathlib.Omega.{arith}
-use borrow.Author.Rules.{rules}
-use lib.ListN.{length}
-use Rattle.hex_lines.proofs.Lines.{line-long, line-odd, line-even, Seen, seen_none, seen_next, seen_all}
+use Rattle.hex_lines.proofs.Lines.{line-long, line-odd, line-even, seen_none, seen_next, seen_all}
 use Rattle.hex_lines.proofs.is_line.Goals as goal
 
 pub returns-then-line-gt40000 : goal.returns-then-line-gt40000

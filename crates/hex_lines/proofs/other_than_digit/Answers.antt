@@ -1,7 +1,6 @@
 -- `hex_lines::other_than_digit` meets its contract: by whether it is a digit. Assumes nothing.
 use mathlib.Core.Path.{sym, ap, ◌∙◌}
 use mathlib.Core.Bool.{Bool, cond}
-use borrow.Author.Rules.{rules}
 use Rattle.hex_lines.proofs.other_than_digit.Goals as goal
 
 pub returns-then-is_digit : goal.returns-then-is_digit

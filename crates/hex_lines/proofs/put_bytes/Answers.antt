@@ -1,10 +1,10 @@
 -- `hex_lines::put_bytes` meets its contract. The loop's invariant: the bytes of the i pairs passed stand in front. Assumes nothing.
-use mathlib.Core.Path.{◌≡◌, refl}
-use Prim.Native.Nat.{◌+◌, ◌-◌, ◌*◌, ◌≤◌}
+use mathlib.Core.Path.{refl}
+use Prim.Native.Nat.{◌+◌, ◌*◌}
 use native.Mathlib.Omega.{arith}
-use lib.ListN.{length, length-set}
+use lib.ListN.{length-set}
 use Rattle.slices.proofs.Pieces.{put-none}
-use Rattle.hex_lines.proofs.Lines.{line-digit, Bytes-put, bytes-put-next, bytes-put-done}
+use Rattle.hex_lines.proofs.Lines.{line-digit, bytes-put-next, bytes-put-done}
 use Rattle.hex_lines.proofs.put_bytes.Goals as goal
 
 pub loop-i-init : goal.loop-i-init

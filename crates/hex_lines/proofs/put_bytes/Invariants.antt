@@ -1,10 +1,8 @@
 -- `hex_lines::put_bytes` meets its contract. The loop's invariant: the bytes of the i pairs passed stand in front. Assumes nothing.
-use mathlib.Core.Path.{◌≡◌, refl}
-use Prim.Native.Nat.{◌+◌, ◌-◌, ◌*◌, ◌≤◌}
-use native.Mathlib.Omega.{arith}
-use lib.ListN.{length, length-set}
-use Rattle.slices.proofs.Pieces.{put-none}
-use Rattle.hex_lines.proofs.Lines.{line-digit, Bytes-put, bytes-put-next, bytes-put-done}
+use mathlib.Core.Path.{◌≡◌}
+use Prim.Native.Nat.{◌-◌, ◌≤◌}
+use lib.ListN.{length}
+use Rattle.hex_lines.proofs.Lines.{Bytes-put}
 use Rattle.hex_lines.proofs.put_bytes.Given as goal
 
 abbrev pub invariant-loop-i : goal.invariant-loop-i

@@ -1,17 +1,16 @@
 -- `hex_lines::put_digits` meets its contract. The loop's invariant: the digits of the i bytes passed stand in front. Assumes nothing.
-use mathlib.Core.Path.{◌≡◌, refl}
-use Prim.Native.Nat.{◌-◌, ◌≤◌}
+use mathlib.Core.Path.{refl}
 use native.Mathlib.Omega.{arith}
-use lib.ListN.{length, length-set}
+use lib.ListN.{length-set}
 use Rattle.slices.proofs.Pieces.{put-none}
-use Rattle.hex_lines.proofs.Lines.{Digits-put, digits-put-next, digits-put-done}
+use Rattle.hex_lines.proofs.Lines.{digits-put-next, digits-put-done}
 use Rattle.hex_lines.proofs.put_digits.Goals as goal
 
 pub loop-i-init : goal.loop-i-init
 loop-i-init c = (omega arith, refl, put-none _ _)
 
 pub digit_of-requires : goal.digit_of-requires
-digit_of-requires c = omega (arith, c.shared_slice_known-in-loop-i-1.given c.loop-i.i)
+digit_of-requires c = omega (arith, c.type_inv.bytes c.loop-i.i)
 
 pub bounds-out-i-in-loop-i : goal.bounds-out-i-in-loop-i
 bounds-out-i-in-loop-i c = simp length-set (omega arith)

@@ -1,10 +1,8 @@
 -- `hex_lines::put_digits` meets its contract. The loop's invariant: the digits of the i bytes passed stand in front. Assumes nothing.
-use mathlib.Core.Path.{◌≡◌, refl}
+use mathlib.Core.Path.{◌≡◌}
 use Prim.Native.Nat.{◌-◌, ◌≤◌}
-use native.Mathlib.Omega.{arith}
-use lib.ListN.{length, length-set}
-use Rattle.slices.proofs.Pieces.{put-none}
-use Rattle.hex_lines.proofs.Lines.{Digits-put, digits-put-next, digits-put-done}
+use lib.ListN.{length}
+use Rattle.hex_lines.proofs.Lines.{Digits-put}
 use Rattle.hex_lines.proofs.put_digits.Given as goal
 
 abbrev pub invariant-loop-i : goal.invariant-loop-i

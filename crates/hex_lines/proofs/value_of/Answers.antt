@@ -1,5 +1,4 @@
 -- `hex_lines::value_of` meets its contract, by a test at every digit. Assumes nothing.
-use borrow.Author.Rules.{rules}
 use native.Mathlib.Omega.{arith}
 use Rattle.hex_lines.proofs.Lines.{value-bits, value-lt}
 use Rattle.hex_lines.proofs.value_of.Goals as goal

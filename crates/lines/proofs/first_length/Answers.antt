@@ -1,9 +1,7 @@
 -- `lines::first_length` meets its contract. The loop's invariant: no line ends among the i characters passed. Assumes nothing.
 use mathlib.Core.Path.{sym}
-use Prim.Native.Nat.{◌-◌, ◌≤◌}
 use native.Mathlib.Omega.{arith}
-use lib.ListN.{length}
-use Rattle.lines.proofs.Lines.{Passed, passed-next, passed-end, passed-all}
+use Rattle.lines.proofs.Lines.{passed-next, passed-end, passed-all}
 use Rattle.lines.proofs.first_length.Goals as goal
 
 pub loop-i-init : goal.loop-i-init

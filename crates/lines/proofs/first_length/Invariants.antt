@@ -1,9 +1,7 @@
 -- `lines::first_length` meets its contract. The loop's invariant: no line ends among the i characters passed. Assumes nothing.
-use mathlib.Core.Path.{sym}
 use Prim.Native.Nat.{◌-◌, ◌≤◌}
-use native.Mathlib.Omega.{arith}
 use lib.ListN.{length}
-use Rattle.lines.proofs.Lines.{Passed, passed-next, passed-end, passed-all}
+use Rattle.lines.proofs.Lines.{Passed}
 use Rattle.lines.proofs.first_length.Given as goal
 
 abbrev pub invariant-loop-i : goal.invariant-loop-i

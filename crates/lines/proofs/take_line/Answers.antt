@@ -1,6 +1,5 @@
 -- `lines::take_line` meets its contract: by whether the line ends in the block. Assumes nothing.
 use native.Mathlib.Omega.{arith}
-use borrow.Author.Rules.{rules}
 use Rattle.lines.proofs.Lines.{line-ends, line-goes-on, line-size, line-held}
 use Rattle.lines.proofs.take_line.Goals as goal
 

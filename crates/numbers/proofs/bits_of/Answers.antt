@@ -1,7 +1,6 @@
 -- `numbers::bits_of` meets its contract. Assumes nothing.
 use mathlib.Core.Path.{sym, ap, ◌∙◌}
 use native.Mathlib.Omega.{arith}
-use borrow.Author.Rules.{rules}
 use mir.Facts.{to_z-of_z}
 use Rattle.numbers.specs.TwosComplement.{bits_of}
 use Rattle.numbers.proofs.I64.{negative, not_negative}

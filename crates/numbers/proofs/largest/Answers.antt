@@ -1,5 +1,4 @@
 -- `numbers::largest` meets its contract. Assumes nothing.
-use borrow.Author.Rules.{rules}
 use Rattle.numbers.proofs.BigEndian.{largest-is}
 use Rattle.numbers.proofs.largest.Goals as goal
 

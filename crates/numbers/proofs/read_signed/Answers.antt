@@ -1,6 +1,5 @@
 -- `numbers::read_signed` meets its contract: the unsigned read's answer, its number taken in two's complement. Assumes nothing.
 use mathlib.Core.Path.{sym, ap, ◌∙◌}
-use borrow.Author.Rules.{rules}
 use mir.Facts.{to_z-of_z}
 use Rattle.numbers.specs.Access.{signed_of}
 use Rattle.numbers.specs.declared.Signed.TheVariants.{Number}

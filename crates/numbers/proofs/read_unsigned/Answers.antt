@@ -1,9 +1,8 @@
 -- `numbers::read_unsigned` meets its contract. The loop's invariant: `number` is the number of the i bytes passed, so it is below 256
 -- to the i. Assumes nothing.
 use mathlib.Core.Path.{◌≡◌, sym, ap, ◌∙◌}
-use Prim.Native.Nat.{ℕ, ◌+◌, ◌*◌, ◌-◌, ◌^◌, ◌≤◌, ◌<◌}
+use Prim.Native.Nat.{ℕ, ◌+◌, ◌*◌}
 use native.Mathlib.Omega.{arith}
-use borrow.Author.Rules.{rules}
 use lib.Dec.{lit<}
 use lib.ListN.{get_or}
 use Rattle.slices.specs.Parts.{part}
@@ -11,26 +10,26 @@ use Rattle.slices.proofs.Parts.{reaches-le, reaches-lt}
 use Rattle.numbers.specs.BigEndian.{big_endian}
 use Rattle.numbers.specs.declared.Unsigned.TheVariants.{Number}
 use Rattle.numbers.proofs.BigEndian.{big-none, big-part, load-room, load-next}
-use Rattle.numbers.proofs.Access.{Lies, failed, passed, width-most, unsigned-number, unsigned-beyond, unsigned-invalid}
+use Rattle.numbers.proofs.Access.{width-most, unsigned-number, unsigned-beyond, unsigned-invalid}
 use Rattle.numbers.proofs.read_unsigned.Goals as goal
 
 pub returns-then-not-is_width : goal.returns-then-not-is_width
 returns-then-not-is_width c =
     let a = c.args in
-    unsigned-invalid a.bytes.now a.at a.width (failed c.is_width.ensures c.if-not-is_width.true-raw)
+    unsigned-invalid a.bytes.now a.at a.width (sym c.is_width.ensures ∙ c.if-not-is_width.true)
 
 pub returns-then-not-in_bounds : goal.returns-then-not-in_bounds
 returns-then-not-in_bounds c =
     let a = c.args in
-    unsigned-beyond a.bytes.now a.at a.width (passed c.is_width.ensures c.if-not-is_width.false-raw)
-    (reaches-lt a.bytes.now a.at a.width (failed c.in_bounds.ensures c.if-not-in_bounds.true-raw))
+    unsigned-beyond a.bytes.now a.at a.width (sym c.is_width.ensures ∙ c.if-not-is_width.false)
+    (reaches-lt a.bytes.now a.at a.width (sym c.in_bounds.ensures ∙ c.if-not-in_bounds.true))
 
 pub loop-i-init : goal.loop-i-init
 loop-i-init c =
     let a = c.args in (
       record {
-        width = passed c.is_width.ensures c.if-not-is_width.false-raw;
-        inside = reaches-le a.bytes.now a.at a.width (passed c.in_bounds.ensures c.if-not-in_bounds.false-raw);
+        width = sym c.is_width.ensures ∙ c.if-not-is_width.false;
+        inside = reaches-le a.bytes.now a.at a.width (sym c.in_bounds.ensures ∙ c.if-not-in_bounds.false);
       },
       omega arith,
       sym (big-none a.bytes.now a.at),
@@ -46,7 +45,7 @@ overflow_mul-number c =
 pub overflow_cast-number : goal.overflow_cast-number
 overflow_cast-number c =
     let a = c.args in
-    omega (arith, c.shared_slice_known-in-loop-i-1.given (a.at + c.loop-i.i))
+    omega (arith, c.type_inv.bytes (a.at + c.loop-i.i))
 
 pub overflow_add-number-in-loop-i : goal.overflow_add-number-in-loop-i
 overflow_add-number-in-loop-i c =
@@ -54,7 +53,7 @@ overflow_add-number-in-loop-i c =
     let l = c.loop-i in
     omega (
       arith,
-      c.shared_slice_known-in-loop-i-1.given (a.at + l.i),
+      c.type_inv.bytes (a.at + l.i),
       load-room l.number l.i a.width l.invariant.3 c.loop-i-test.true (width-most a.width l.invariant.0.width),
     )
 
@@ -66,7 +65,7 @@ loop-i-preserved c =
       l.invariant.0,
       omega arith,
       rw (big-part a.bytes.now a.at l.i (omega arith)) (ap (λ (n : ℕ). n * 256 + b) l.invariant.2),
-      load-next l.number b l.i l.invariant.3 (c.shared_slice_known-in-loop-i-1.given (a.at + l.i)).fits,
+      load-next l.number b l.i l.invariant.3 (c.type_inv.bytes (a.at + l.i)).fits,
     )
 
 pub returns : goal.returns

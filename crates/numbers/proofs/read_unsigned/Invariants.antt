@@ -1,17 +1,10 @@
 -- `numbers::read_unsigned` meets its contract. The loop's invariant: `number` is the number of the i bytes passed, so it is below 256
 -- to the i. Assumes nothing.
-use mathlib.Core.Path.{◌≡◌, sym, ap, ◌∙◌}
-use Prim.Native.Nat.{ℕ, ◌+◌, ◌*◌, ◌-◌, ◌^◌, ◌≤◌, ◌<◌}
-use native.Mathlib.Omega.{arith}
-use borrow.Author.Rules.{rules}
-use lib.Dec.{lit<}
-use lib.ListN.{get_or}
+use mathlib.Core.Path.{◌≡◌}
+use Prim.Native.Nat.{◌-◌, ◌^◌, ◌≤◌, ◌<◌}
 use Rattle.slices.specs.Parts.{part}
-use Rattle.slices.proofs.Parts.{reaches-le, reaches-lt}
 use Rattle.numbers.specs.BigEndian.{big_endian}
-use Rattle.numbers.specs.declared.Unsigned.TheVariants.{Number}
-use Rattle.numbers.proofs.BigEndian.{big-none, big-part, load-room, load-next}
-use Rattle.numbers.proofs.Access.{Lies, failed, passed, width-most, unsigned-number, unsigned-beyond, unsigned-invalid}
+use Rattle.numbers.proofs.Access.{Lies}
 use Rattle.numbers.proofs.read_unsigned.Given as goal
 
 abbrev pub invariant-loop-i : goal.invariant-loop-i

@@ -1,24 +1,22 @@
 -- `numbers::store` meets its contract. The loop's invariant: what is left to store, stored now, gives what the whole store gives.
 -- Assumes nothing.
 use mathlib.Core.Path.{◌≡◌, refl, sym, ap, ◌∙◌}
-use Prim.Native.Nat.{ℕ, suc, ◌+◌, ◌-◌, ◌≤◌}
+use Prim.Native.Nat.{ℕ, suc, ◌-◌}
 use native.Mathlib.Omega.{arith}
-use lib.ListN.{length, length-set}
+use lib.ListN.{length-set}
 use lib.Seq.{sets}
-use borrow.Author.Rules.{rules}
 use Rattle.slices.proofs.Parts.{reaches-yes, reaches-le}
 use Rattle.numbers.specs.BigEndian.{bytes_of}
 use Rattle.numbers.proofs.BigEndian.{store-next}
-use Rattle.numbers.proofs.Access.{failed, passed}
 use Rattle.numbers.proofs.store.Goals as goal
 
 pub returns-then-not-in_bounds : goal.returns-then-not-in_bounds
-returns-then-not-in_bounds c = rw (failed c.in_bounds.ensures c.if-not-in_bounds.true-raw) record { answer = refl; filled = refl }
+returns-then-not-in_bounds c = rw (sym c.in_bounds.ensures ∙ c.if-not-in_bounds.true) record { answer = refl; filled = refl }
 
 pub loop-left-init : goal.loop-left-init
 loop-left-init c =
     let a = c.args in
-    (reaches-le a.bytes.now a.at a.width (passed c.in_bounds.ensures c.if-not-in_bounds.false-raw), omega arith, omega arith, refl, refl)
+    (reaches-le a.bytes.now a.at a.width (sym c.in_bounds.ensures ∙ c.if-not-in_bounds.false), omega arith, omega arith, refl, refl)
 
 pub loop-left-preserved : goal.loop-left-preserved
 loop-left-preserved c =

@@ -1,15 +1,10 @@
 -- `numbers::store` meets its contract. The loop's invariant: what is left to store, stored now, gives what the whole store gives.
 -- Assumes nothing.
-use mathlib.Core.Path.{◌≡◌, refl, sym, ap, ◌∙◌}
-use Prim.Native.Nat.{ℕ, suc, ◌+◌, ◌-◌, ◌≤◌}
-use native.Mathlib.Omega.{arith}
-use lib.ListN.{length, length-set}
+use mathlib.Core.Path.{◌≡◌}
+use Prim.Native.Nat.{◌+◌, ◌≤◌}
+use lib.ListN.{length}
 use lib.Seq.{sets}
-use borrow.Author.Rules.{rules}
-use Rattle.slices.proofs.Parts.{reaches-yes, reaches-le}
 use Rattle.numbers.specs.BigEndian.{bytes_of}
-use Rattle.numbers.proofs.BigEndian.{store-next}
-use Rattle.numbers.proofs.Access.{failed, passed}
 use Rattle.numbers.proofs.store.Given as goal
 
 abbrev pub invariant-loop-left : goal.invariant-loop-left

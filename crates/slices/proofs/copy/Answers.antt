@@ -1,10 +1,9 @@
 -- `slices::copy` meets its contract. The loop's invariant: what is left to copy, copied now, gives what the whole copy gives.
 -- Assumes nothing.
-use mathlib.Core.Path.{◌≡◌, refl}
-use Prim.Native.Nat.{◌+◌, ◌-◌, ◌≤◌}
+use mathlib.Core.Path.{refl}
 use native.Mathlib.Omega.{arith}
-use lib.ListN.{length, length-set}
-use Rattle.slices.proofs.Parts.{fits-yes, source-short, target-short, Copying, copying-none, copying-next, copying-done}
+use lib.ListN.{length-set}
+use Rattle.slices.proofs.Parts.{fits-yes, source-short, target-short, copying-none, copying-next, copying-done}
 use Rattle.slices.proofs.copy.Goals as goal
 
 pub returns-then-source-start : goal.returns-then-source-start

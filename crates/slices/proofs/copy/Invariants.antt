@@ -1,10 +1,9 @@
 -- `slices::copy` meets its contract. The loop's invariant: what is left to copy, copied now, gives what the whole copy gives.
 -- Assumes nothing.
-use mathlib.Core.Path.{◌≡◌, refl}
+use mathlib.Core.Path.{◌≡◌}
 use Prim.Native.Nat.{◌+◌, ◌-◌, ◌≤◌}
-use native.Mathlib.Omega.{arith}
-use lib.ListN.{length, length-set}
-use Rattle.slices.proofs.Parts.{fits-yes, source-short, target-short, Copying, copying-none, copying-next, copying-done}
+use lib.ListN.{length}
+use Rattle.slices.proofs.Parts.{Copying}
 use Rattle.slices.proofs.copy.Given as goal
 
 abbrev pub invariant-loop-i : goal.invariant-loop-i

@@ -1,10 +1,7 @@
 -- `utf8::complete` meets its contract. The loop's invariant: i bytes of the sequence are read. Assumes nothing.
 use mathlib.Core.Path.{sym, ◌∙◌}
-use Prim.Native.Nat.{◌-◌}
 use native.Mathlib.Omega.{arith}
-use borrow.Author.Rules.{rules}
-use borrow.Author.Tests.{not-true, not-false}
-use Rattle.utf8.proofs.Sequences.{Reading, reading, cut_off, room, no-continuation, continued, overlong, no-scalar, well-formed}
+use Rattle.utf8.proofs.Sequences.{reading, cut_off, room, no-continuation, continued, overlong, no-scalar, well-formed}
 use Rattle.utf8.proofs.complete.Goals as goal
 
 pub returns-then-bytes-at : goal.returns-then-bytes-at
@@ -20,7 +17,7 @@ loop-i-init c =
 pub returns-then-not-is_continuation : goal.returns-then-not-is_continuation
 returns-then-not-is_continuation c =
     let l = c.loop-i in
-    no-continuation l.invariant (omega arith) (sym c.is_continuation.ensures ∙ not-true _ c.if-not-is_continuation.true-raw)
+    no-continuation l.invariant (omega arith) (sym c.is_continuation.ensures ∙ c.if-not-is_continuation.true)
 
 pub shift_in-scalar-requires : goal.shift_in-scalar-requires
 shift_in-scalar-requires c =
@@ -30,7 +27,7 @@ shift_in-scalar-requires c =
 pub loop-i-preserved : goal.loop-i-preserved
 loop-i-preserved c =
     let l = c.loop-i in
-    continued l.invariant (omega arith) (sym c.is_continuation.ensures ∙ not-false _ c.if-not-is_continuation.false-raw)
+    continued l.invariant (omega arith) (sym c.is_continuation.ensures ∙ c.if-not-is_continuation.false)
     c.shift_in-scalar.result c.shift_in-scalar.ensures
 
 pub returns-then-scalar-least : goal.returns-then-scalar-least
@@ -41,9 +38,9 @@ returns-then-scalar-least c =
 pub returns-then-not-is_scalar : goal.returns-then-not-is_scalar
 returns-then-not-is_scalar c =
     let l = c.loop-i in
-    no-scalar l.invariant (omega arith) (omega arith) (sym c.is_scalar.ensures ∙ not-true _ c.if-not-is_scalar.true-raw)
+    no-scalar l.invariant (omega arith) (omega arith) (sym c.is_scalar.ensures ∙ c.if-not-is_scalar.true)
 
 pub returns : goal.returns
 returns c =
     let l = c.loop-i in
-    well-formed l.invariant (omega arith) (omega arith) (sym c.is_scalar.ensures ∙ not-false _ c.if-not-is_scalar.false-raw)
+    well-formed l.invariant (omega arith) (omega arith) (sym c.is_scalar.ensures ∙ c.if-not-is_scalar.false)

@@ -1,10 +1,6 @@
 -- `utf8::complete` meets its contract. The loop's invariant: i bytes of the sequence are read. Assumes nothing.
-use mathlib.Core.Path.{sym, ◌∙◌}
 use Prim.Native.Nat.{◌-◌}
-use native.Mathlib.Omega.{arith}
-use borrow.Author.Rules.{rules}
-use borrow.Author.Tests.{not-true, not-false}
-use Rattle.utf8.proofs.Sequences.{Reading, reading, cut_off, room, no-continuation, continued, overlong, no-scalar, well-formed}
+use Rattle.utf8.proofs.Sequences.{Reading}
 use Rattle.utf8.proofs.complete.Given as goal
 
 abbrev pub invariant-loop-i : goal.invariant-loop-i

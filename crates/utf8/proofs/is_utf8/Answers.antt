@@ -26,29 +26,29 @@ returns-then-bytes-at c =
 pub sequence_at-size-requires : goal.sequence_at-size-requires
 sequence_at-size-requires c =
     let led : Leads c.args.bytes.now c.if-bytes-at-lt128.at × (c.loop-at.at ≤ c.if-bytes-at-lt128.at) =
-        elim c.if-bytes-at-lt128.branch [
-          then-bytes-at-lt128+else-bytes-at w ↦ past c.loop-at.invariant (w.at-is ∙ w.ascii_end-at.ensures) (omega (arith, w.at-is))
-          | else-bytes-at-lt128 w ↦ here c.loop-at.invariant c.loop-at-test.true w.if-bytes-at-lt128.false w.at-is
-        ] in
+    elim c.if-bytes-at-lt128.branch [
+      | then-bytes-at-lt128+else-bytes-at w ↦ past c.loop-at.invariant (w.at-is ∙ w.ascii_end-at.ensures) (omega (arith, w.at-is))
+      | else-bytes-at-lt128 w ↦ here c.loop-at.invariant c.loop-at-test.true w.if-bytes-at-lt128.false w.at-is
+    ] in
     (led.0.inside, led.0.high)
 
 pub returns-then-size-eq0 : goal.returns-then-size-eq0
 returns-then-size-eq0 c =
     let led : Leads c.args.bytes.now c.if-bytes-at-lt128.at × (c.loop-at.at ≤ c.if-bytes-at-lt128.at) =
-        elim c.if-bytes-at-lt128.branch [
-          then-bytes-at-lt128+else-bytes-at w ↦ past c.loop-at.invariant (w.at-is ∙ w.ascii_end-at.ensures) (omega (arith, w.at-is))
-          | else-bytes-at-lt128 w ↦ here c.loop-at.invariant c.loop-at-test.true w.if-bytes-at-lt128.false w.at-is
-        ] in
+    elim c.if-bytes-at-lt128.branch [
+      | then-bytes-at-lt128+else-bytes-at w ↦ past c.loop-at.invariant (w.at-is ∙ w.ascii_end-at.ensures) (omega (arith, w.at-is))
+      | else-bytes-at-lt128 w ↦ here c.loop-at.invariant c.loop-at-test.true w.if-bytes-at-lt128.false w.at-is
+    ] in
     let n = c.sequence_at-size in
     at-fault led.0.before led.0.inside n.result n.ensures c.if-size-eq0.true
 
 pub loop-at-preserved : goal.loop-at-preserved
 loop-at-preserved c =
     let led : Leads c.args.bytes.now c.if-bytes-at-lt128.at × (c.loop-at.at ≤ c.if-bytes-at-lt128.at) =
-        elim c.if-bytes-at-lt128.branch [
-          then-bytes-at-lt128+else-bytes-at w ↦ past c.loop-at.invariant (w.at-is ∙ w.ascii_end-at.ensures) (omega (arith, w.at-is))
-          | else-bytes-at-lt128 w ↦ here c.loop-at.invariant c.loop-at-test.true w.if-bytes-at-lt128.false w.at-is
-        ] in
+    elim c.if-bytes-at-lt128.branch [
+      | then-bytes-at-lt128+else-bytes-at w ↦ past c.loop-at.invariant (w.at-is ∙ w.ascii_end-at.ensures) (omega (arith, w.at-is))
+      | else-bytes-at-lt128 w ↦ here c.loop-at.invariant c.loop-at-test.true w.if-bytes-at-lt128.false w.at-is
+    ] in
     let n = c.sequence_at-size in
     past-sequence led.0.before led.0.inside n.result n.ensures c.if-size-eq0.false
 
@@ -58,10 +58,10 @@ overflow_add-at c = omega (arith, (loop-at-preserved c).within)
 pub loop-at-smaller : goal.loop-at-smaller
 loop-at-smaller c =
     let led : Leads c.args.bytes.now c.if-bytes-at-lt128.at × (c.loop-at.at ≤ c.if-bytes-at-lt128.at) =
-        elim c.if-bytes-at-lt128.branch [
-          then-bytes-at-lt128+else-bytes-at w ↦ past c.loop-at.invariant (w.at-is ∙ w.ascii_end-at.ensures) (omega (arith, w.at-is))
-          | else-bytes-at-lt128 w ↦ here c.loop-at.invariant c.loop-at-test.true w.if-bytes-at-lt128.false w.at-is
-        ] in
+    elim c.if-bytes-at-lt128.branch [
+      | then-bytes-at-lt128+else-bytes-at w ↦ past c.loop-at.invariant (w.at-is ∙ w.ascii_end-at.ensures) (omega (arith, w.at-is))
+      | else-bytes-at-lt128 w ↦ here c.loop-at.invariant c.loop-at-test.true w.if-bytes-at-lt128.false w.at-is
+    ] in
     omega (arith, (loop-at-preserved c).within, led.1)
 
 pub returns : goal.returns

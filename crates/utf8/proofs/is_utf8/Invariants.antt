@@ -1,11 +1,7 @@
 -- `utf8::is_utf8` meets its contract. The loop's invariant: up to `at` there are whole sequences. Assumes nothing.
-use mathlib.Core.Path.{◌∙◌}
-use mathlib.Core.Logic.{⊎_elim}
-use Prim.Native.Nat.{◌-◌, ◌≤◌}
-use native.Mathlib.Omega.{arith}
-use borrow.Author.Rules.{rules}
+use Prim.Native.Nat.{◌-◌}
 use lib.ListN.{length}
-use Rattle.utf8.proofs.Utf8.{Checked, Leads, checked, all-checked, at-fault, past-run, leads-past-run, past-sequence}
+use Rattle.utf8.proofs.Utf8.{Checked}
 use Rattle.utf8.proofs.is_utf8.Given as goal
 
 abbrev pub invariant-loop-at : goal.invariant-loop-at

@@ -1,7 +1,7 @@
 -- `utf8::is_utf8_part` meets its contract. Assumes nothing.
 use mathlib.Core.Path.{◌≡◌, sym, ap, ◌∙◌}
 use mathlib.Core.List.{List}
-use Prim.Native.Nat.{ℕ, ◌+◌, ◌-◌, ◌≤◌, ◌<◌}
+use Prim.Native.Nat.{ℕ, ◌+◌, ◌-◌, ◌≤◌}
 use native.Mathlib.Omega.{arith}
 use lib.ListN.{length}
 use Rattle.slices.specs.Parts.{part}
@@ -30,6 +30,6 @@ returns c =
     c.is_utf8.ensures
     ∙ ap utf8
     (elim c.if-size-end.branch [
-      then-size-end w ↦ cut _ _ _ _ w.end-is
+      | then-size-end w ↦ cut _ _ _ _ w.end-is
       | else-size-end w ↦ whole _ _ _ _ (omega arith) w.end-is
     ])

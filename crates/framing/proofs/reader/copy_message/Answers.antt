@@ -1,17 +1,10 @@
 -- `reader::copy_message` meets its contract. The invariants: what has come of the message stands in front of what the buffer held.
 -- The inner loop's speaks of any such buffer, since it sees only the one that it started with. Assumes nothing.
-use mathlib.Core.Path.{◌≡◌, refl, sym, ◌∙◌}
-use mathlib.Core.List.{List}
+use mathlib.Core.Path.{refl, sym, ◌∙◌}
 use Prim.Native.Nat.{ℕ, ◌+◌, ◌-◌, ◌≤◌, ◌<◌}
 use native.Mathlib.Nat.{le_refl}
 use native.Mathlib.Omega.{arith}
-use borrow.Author.Rules.{rules}
-use lib.ListN.{length}
-use Rattle.slices.specs.Parts.{part}
-use Rattle.numbers.specs.BigEndian.{big_endian}
-use Rattle.framing.specs.Reading.{frame_of}
-use Rattle.framing.specs.Private.Copying.{IsMessage}
-use Rattle.framing.proofs.Copying.{Copied, copied_none, message-header, message-end, message-small, message-inside, message-next}
+use Rattle.framing.proofs.Copying.{copied_none, message-header, message-end, message-small, message-inside, message-next}
 use Rattle.framing.proofs.reader.copy_message.Goals as goal
 
 -- what is left of the input falls

@@ -1,6 +1,5 @@
 -- `reader::read_frame` meets its contract: it copies exactly where the scan found a message. Assumes nothing.
 use mathlib.Core.Path.{refl, sym, ap, ◌∙◌}
-use borrow.Author.Rules.{rules}
 use lib.ListN.{length}
 use Rattle.framing.specs.Reading.{frame_of, told}
 use Rattle.framing.proofs.Telling.{told-message, told-keep-alive, told-refused}

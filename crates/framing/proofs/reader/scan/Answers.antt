@@ -3,9 +3,8 @@
 use mathlib.Core.Path.{◌≡◌, refl, sym, ap, ◌∙◌}
 use Prim.Native.Nat.{ℕ, ◌+◌, ◌-◌, ◌<◌, ◌≤◌}
 use native.Mathlib.Omega.{arith}
-use lib.ListN.{length}
 use Rattle.framing.specs.Reading.{telling}
-use Rattle.framing.proofs.Scanning.{came-none, at-few, at-message, at_none, at_long, at_room, at_cut, AtHeader, InRun, run-came, run_inside, run-onward, run-header, run-next}
+use Rattle.framing.proofs.Scanning.{came-none, at-few, at-message, at_none, at_long, at_room, at_cut, run-came, run_inside, run-onward, run-header, run-next}
 use Rattle.framing.proofs.reader.scan.Goals as goal
 
 -- what is left of the input falls

@@ -1,11 +1,8 @@
 -- `reader::scan` meets its contract. The invariants: how far the reading has come, at a header and in a run of chunks of one size.
 -- Assumes nothing.
-use mathlib.Core.Path.{◌≡◌, refl, sym, ap, ◌∙◌}
-use Prim.Native.Nat.{ℕ, ◌+◌, ◌-◌, ◌<◌, ◌≤◌}
-use native.Mathlib.Omega.{arith}
+use Prim.Native.Nat.{◌-◌}
 use lib.ListN.{length}
-use Rattle.framing.specs.Reading.{telling}
-use Rattle.framing.proofs.Scanning.{came-none, at-few, at-message, at_none, at_long, at_room, at_cut, AtHeader, InRun, run-came, run_inside, run-onward, run-header, run-next}
+use Rattle.framing.proofs.Scanning.{AtHeader, InRun}
 use Rattle.framing.proofs.reader.scan.Given as goal
 
 abbrev pub invariant-loop-sum : goal.invariant-loop-sum

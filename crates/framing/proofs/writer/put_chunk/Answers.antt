@@ -1,7 +1,6 @@
 -- `writer::put_chunk` meets its contract. Assumes nothing.
 use mathlib.Core.Path.{◌∙◌}
 use native.Mathlib.Omega.{arith}
-use borrow.Author.Rules.{rules}
 use lib.ListN.{length-set}
 use Rattle.framing.proofs.Chunking.{put-chunk}
 use Rattle.framing.proofs.writer.put_chunk.Goals as goal

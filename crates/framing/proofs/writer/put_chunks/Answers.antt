@@ -1,10 +1,8 @@
 -- `writer::put_chunks` meets its contract. The loop's invariant: all of the output but what is left stands in front of the buffer.
 -- Assumes nothing.
-use mathlib.Core.Path.{◌≡◌, refl, ◌∙◌}
-use Prim.Native.Nat.{◌-◌}
+use mathlib.Core.Path.{refl, ◌∙◌}
 use native.Mathlib.Omega.{arith}
-use lib.ListN.{length}
-use Rattle.framing.proofs.Chunking.{Writing, writing-none, whole-fits, whole-next, end_fits, end-done, rest-fits, rest-done}
+use Rattle.framing.proofs.Chunking.{writing-none, whole-fits, whole-next, end_fits, end-done, rest-fits, rest-done}
 use Rattle.framing.proofs.writer.put_chunks.Goals as goal
 
 pub loop-start-init : goal.loop-start-init

@@ -1,10 +1,9 @@
 -- `writer::put_chunks` meets its contract. The loop's invariant: all of the output but what is left stands in front of the buffer.
 -- Assumes nothing.
-use mathlib.Core.Path.{◌≡◌, refl, ◌∙◌}
+use mathlib.Core.Path.{◌≡◌}
 use Prim.Native.Nat.{◌-◌}
-use native.Mathlib.Omega.{arith}
 use lib.ListN.{length}
-use Rattle.framing.proofs.Chunking.{Writing, writing-none, whole-fits, whole-next, end_fits, end-done, rest-fits, rest-done}
+use Rattle.framing.proofs.Chunking.{Writing}
 use Rattle.framing.proofs.writer.put_chunks.Given as goal
 
 abbrev pub invariant-loop-start : goal.invariant-loop-start

@@ -1,7 +1,6 @@
 -- `writer::put_end` meets its contract. Assumes nothing.
 use native.Mathlib.Numerals.{add-one}
 use native.Mathlib.Omega.{arith}
-use borrow.Author.Rules.{rules}
 use lib.ListN.{length-set}
 use Rattle.framing.proofs.writer.put_end.Goals as goal
 

@@ -1,6 +1,5 @@
 -- `negotiation::four_at` meets its contract. Assumes nothing.
 use Rattle.handshake.proofs.Proposals.{four-part}
-use borrow.Author.Rules.{rules}
 use Rattle.handshake.proofs.negotiation.four_at.Goals as goal
 
 pub returns : goal.returns

@@ -1,9 +1,8 @@
 -- `negotiation::negotiate` meets its contract. The loop's invariant: the choice is the one among the proposals left. Assumes nothing.
 use mathlib.Core.Path.{◌≡◌, refl, sym, ap, ◌∙◌}
-use Prim.Native.Nat.{ℕ, ◌≤◌, ◌-◌, ◌+◌, ◌*◌}
+use Prim.Native.Nat.{ℕ, ◌-◌, ◌+◌, ◌*◌}
 use native.Mathlib.Omega.{arith}
-use borrow.Author.Rules.{rules}
-use borrow.Author.Tests.{not-true, not-false, lt-ltb, le-ltb}
+use borrow.Author.Tests.{lt-ltb, le-ltb}
 use lib.ListN.{drop}
 use mathlib.Core.List.{List}
 use mathlib.Core.Option.{Option}
@@ -15,15 +14,15 @@ use Rattle.handshake.proofs.negotiation.negotiate.Goals as goal
 
 pub returns-then-not-preamble_agrees : goal.returns-then-not-preamble_agrees
 unfolding negotiated
-returns-then-not-preamble_agrees c = simp (sym c.preamble_agrees.ensures ∙ not-true _ c.if-not-preamble_agrees.true-raw)
+returns-then-not-preamble_agrees c = simp (sym c.preamble_agrees.ensures ∙ c.if-not-preamble_agrees.true)
 
 pub returns-then-input-lt20 : goal.returns-then-input-lt20
 unfolding negotiated
-returns-then-input-lt20 c = simp (sym c.preamble_agrees.ensures ∙ not-false _ c.if-not-preamble_agrees.false-raw, lt-ltb _ _ c.if-input-lt20.true)
+returns-then-input-lt20 c = simp (sym c.preamble_agrees.ensures ∙ c.if-not-preamble_agrees.false, lt-ltb _ _ c.if-input-lt20.true)
 
 pub loop-k-init : goal.loop-k-init
 unfolding negotiated
-loop-k-init c = (omega arith, simp (sym c.preamble_agrees.ensures ∙ not-false _ c.if-not-preamble_agrees.false-raw, le-ltb _ _ c.if-input-lt20.false))
+loop-k-init c = (omega arith, simp (sym c.preamble_agrees.ensures ∙ c.if-not-preamble_agrees.false, le-ltb _ _ c.if-input-lt20.false))
 
 pub returns-in-Known : goal.returns-in-Known
 returns-in-Known c =

@@ -1,16 +1,8 @@
 -- `negotiation::negotiate` meets its contract. The loop's invariant: the choice is the one among the proposals left. Assumes nothing.
-use mathlib.Core.Path.{◌≡◌, refl, sym, ap, ◌∙◌}
-use Prim.Native.Nat.{ℕ, ◌≤◌, ◌-◌, ◌+◌, ◌*◌}
-use native.Mathlib.Omega.{arith}
-use borrow.Author.Rules.{rules}
-use borrow.Author.Tests.{not-true, not-false, lt-ltb, le-ltb}
+use mathlib.Core.Path.{◌≡◌}
+use Prim.Native.Nat.{◌≤◌, ◌-◌, ◌+◌, ◌*◌}
 use lib.ListN.{drop}
-use mathlib.Core.List.{List}
-use mathlib.Core.Option.{Option}
-use Rattle.slices.specs.Parts.{part}
-use Rattle.handshake.specs.Version.{proposed, named_by}
-use Rattle.handshake.specs.Negotiation.{negotiated, chosen, or_else}
-use Rattle.handshake.proofs.Choosing.{chosen-next}
+use Rattle.handshake.specs.Negotiation.{negotiated, chosen}
 use Rattle.handshake.proofs.negotiation.negotiate.Given as goal
 
 abbrev pub invariant-loop-k : goal.invariant-loop-k

@@ -1,10 +1,8 @@
 -- `negotiation::preamble_agrees` meets its contract. The loop's invariant: the preamble agrees if what is left of it does. Assumes nothing.
-use mathlib.Core.Path.{◌≡◌, refl, sym, ◌∙◌}
-use Prim.Native.Nat.{◌≤◌, ◌-◌}
+use mathlib.Core.Path.{refl, sym, ◌∙◌}
 use native.Mathlib.Omega.{arith}
 use borrow.Author.Tests.{eq-eqb, ne_eqb}
-use lib.ListN.{drop}
-use Rattle.handshake.specs.Negotiation.{agrees, preamble}
+use Rattle.handshake.specs.Negotiation.{preamble}
 use Rattle.handshake.proofs.Choosing.{agrees-next, agrees-short, agrees-whole}
 use Rattle.handshake.proofs.negotiation.preamble_agrees.Goals as goal
 

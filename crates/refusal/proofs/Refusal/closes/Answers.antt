@@ -1,6 +1,5 @@
 -- `Refusal::closes` meets its contract: by where the number lies. Assumes nothing.
 use mathlib.Core.Path.{ap, ◌∙◌}
-use borrow.Author.Rules.{rules}
 use Rattle.refusal.specs.Answer.{closes_after}
 use Rattle.refusal.proofs.Closing.{closes-low, closes-between, closes-high}
 use Rattle.refusal.proofs.Refusal.closes.Goals as goal

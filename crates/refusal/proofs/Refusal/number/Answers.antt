@@ -1,6 +1,5 @@
 -- `Refusal::number` meets its contract: in each arm the match told which refusal it is. Assumes nothing.
 use mathlib.Core.Path.{sym, ap}
-use borrow.Author.Rules.{rules}
 use Rattle.refusal.specs.Numbers.{number_of}
 use Rattle.refusal.proofs.Refusal.number.Goals as goal
 

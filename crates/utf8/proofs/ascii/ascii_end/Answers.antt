@@ -1,13 +1,11 @@
 -- `utf8::ascii::ascii_end` meets its contract. The loop's invariant: `at` lies in the run, and the list has eight bytes. Assumes nothing.
 use mathlib.Core.Path.{◌≡◌, sym, ap, ◌∙◌}
-use Prim.Native.Nat.{ℕ, ◌+◌, ◌-◌, ◌*◌, ◌/◌, ◌≤◌}
+use Prim.Native.Nat.{ℕ, ◌+◌, ◌-◌, ◌*◌, ◌/◌}
 use native.Mathlib.Omega.{arith}
-use borrow.Author.Rules.{rules}
-use borrow.Author.Tests.{not-true, not-false}
 use lib.ListN.{length, drop}
 use Rattle.slices.specs.Parts.{part}
 use Rattle.utf8.specs.Private.Ascii.{ascii_run}
-use Rattle.utf8.proofs.Runs.{InRun, in-run, run-begins, run-of-one, in-run-past, tested, ends-among, ends-in-rest, ends-with-list}
+use Rattle.utf8.proofs.Runs.{in-run, run-begins, run-of-one, in-run-past, tested, ends-among, ends-in-rest, ends-with-list}
 use Rattle.utf8.proofs.ascii.ascii_end.Goals as goal
 
 pub returns-then-bytes-start-lt8 : goal.returns-then-bytes-start-lt8
@@ -37,7 +35,7 @@ past_bytes-requires-then-not-is_ascii_word c = omega (arith, c.loop-at.invariant
 pub returns-then-not-is_ascii_word : goal.returns-then-not-is_ascii_word
 returns-then-not-is_ascii_word c =
     let l = c.loop-at in
-    c.past_bytes-then-not-is_ascii_word.ensures ∙ ends-among l.invariant.0 7 (sym c.is_ascii_word.ensures ∙ not-true _ c.if-not-is_ascii_word.true-raw)
+    c.past_bytes-then-not-is_ascii_word.ensures ∙ ends-among l.invariant.0 7 (sym c.is_ascii_word.ensures ∙ c.if-not-is_ascii_word.true)
 
 pub past_blocks-at-requires : goal.past_blocks-at-requires
 past_blocks-at-requires c = omega (arith, c.loop-at.invariant.0.within)
@@ -49,7 +47,7 @@ pub loop-at-preserved : goal.loop-at-preserved
 loop-at-preserved c =
     let l = c.loop-at in
     let s = c.args.bytes.now in
-    let clear = sym c.is_ascii_word.ensures ∙ not-false _ c.if-not-is_ascii_word.false-raw in
+    let clear = sym c.is_ascii_word.ensures ∙ c.if-not-is_ascii_word.false in
     let eight = in-run-past l.invariant.0 8 (tested s l.at 8 (omega (arith, l.invariant.0.within)) clear) in
     let blocks = in-run-past eight (ascii_run (drop (l.at + 8) s) / 64 * 64) (omega arith) in
     (rw c.past_blocks-at.ensures blocks, l.invariant.1)

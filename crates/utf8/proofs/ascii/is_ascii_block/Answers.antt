@@ -1,12 +1,8 @@
 -- `utf8::ascii::is_ascii_block` meets its contract. The loop's invariant: the or of i words has no top bit
 -- set exactly if their bytes are ASCII. Assumes nothing.
 use mathlib.Core.Path.{◌≡◌, refl}
-use Prim.Native.Nat.{◌+◌, ◌-◌, ◌*◌, ◌≤◌}
+use Prim.Native.Nat.{◌+◌, ◌*◌}
 use native.Mathlib.Omega.{arith}
-use borrow.Author.Rules.{rules}
-use lib.Bits.{bit_and}
-use lib.Dec.{eqb}
-use Rattle.slices.specs.Parts.{part}
 use Rattle.utf8.specs.Private.Ascii.{all_below}
 use Rattle.utf8.proofs.TopBits.{top_bits, masked-next}
 use Rattle.utf8.proofs.ascii.is_ascii_block.Goals as goal
@@ -22,7 +18,7 @@ loop-i-preserved c =
     let e : 8 * (l.i + 1) ≡ 8 * l.i + 8 = omega arith in (
       omega arith,
       rw (c.word_at-all.ensures, e)
-          (masked-next a.bytes.now a.at 8 (8 * l.i) l.all (λ j. (c.shared_slice_known-1.given j).fits) (omega arith) l.invariant.1),
+          (masked-next a.bytes.now a.at 8 (8 * l.i) l.all (λ j. (c.type_inv.bytes j).fits) (omega arith) l.invariant.1),
     )
 
 pub returns : goal.returns

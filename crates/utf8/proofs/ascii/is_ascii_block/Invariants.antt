@@ -1,14 +1,12 @@
 -- `utf8::ascii::is_ascii_block` meets its contract. The loop's invariant: the or of i words has no top bit
 -- set exactly if their bytes are ASCII. Assumes nothing.
-use mathlib.Core.Path.{◌≡◌, refl}
-use Prim.Native.Nat.{◌+◌, ◌-◌, ◌*◌, ◌≤◌}
-use native.Mathlib.Omega.{arith}
-use borrow.Author.Rules.{rules}
+use mathlib.Core.Path.{◌≡◌}
+use Prim.Native.Nat.{◌-◌, ◌*◌, ◌≤◌}
 use lib.Bits.{bit_and}
 use lib.Dec.{eqb}
 use Rattle.slices.specs.Parts.{part}
 use Rattle.utf8.specs.Private.Ascii.{all_below}
-use Rattle.utf8.proofs.TopBits.{top_bits, masked-next}
+use Rattle.utf8.proofs.TopBits.{top_bits}
 use Rattle.utf8.proofs.ascii.is_ascii_block.Given as goal
 
 abbrev pub invariant-loop-i : goal.invariant-loop-i

@@ -1,12 +1,9 @@
 -- `utf8::ascii::past_blocks` meets its contract. The loop's invariant: the whole blocks from `at` on end where those from `start` on do.
 -- Assumes nothing.
-use mathlib.Core.Path.{◌≡◌, refl, sym, ◌∙◌}
-use Prim.Native.Nat.{◌+◌, ◌-◌, ◌*◌, ◌/◌, ◌≤◌}
+use mathlib.Core.Path.{refl, sym, ◌∙◌}
+use Prim.Native.Nat.{◌+◌, ◌≤◌}
 use native.Mathlib.Omega.{arith}
-use borrow.Author.Rules.{rules}
-use borrow.Author.Tests.{not-true, not-false}
 use lib.ListN.{length, drop, length-drop}
-use Rattle.utf8.specs.Private.Ascii.{ascii_run}
 use Rattle.utf8.proofs.Runs.{run-le, not-all-run, tested, past}
 use Rattle.utf8.proofs.ascii.past_blocks.Goals as goal
 
@@ -23,7 +20,7 @@ pub returns-then-not-is_ascii_block : goal.returns-then-not-is_ascii_block
 returns-then-not-is_ascii_block c =
     let a = c.args in
     let l = c.loop-at in
-    let short = not-all-run 64 (drop l.at a.bytes.now) (sym c.is_ascii_block.ensures ∙ not-true _ c.if-not-is_ascii_block.true-raw) in
+    let short = not-all-run 64 (drop l.at a.bytes.now) (sym c.is_ascii_block.ensures ∙ c.if-not-is_ascii_block.true) in
     omega (arith, l.invariant.1, short)
 
 pub loop-at-preserved : goal.loop-at-preserved
@@ -31,7 +28,7 @@ loop-at-preserved c =
     let a = c.args in
     let l = c.loop-at in
     let inside : l.at + 64 ≤ length a.bytes.now = omega (arith, l.invariant.0) in
-    let whole = tested a.bytes.now l.at 64 inside (sym c.is_ascii_block.ensures ∙ not-false _ c.if-not-is_ascii_block.false-raw) in
+    let whole = tested a.bytes.now l.at 64 inside (sym c.is_ascii_block.ensures ∙ c.if-not-is_ascii_block.false) in
     (inside, omega (arith, l.invariant.1, past a.bytes.now l.at 64 whole))
 
 pub returns : goal.returns

@@ -1,13 +1,9 @@
 -- `utf8::ascii::past_blocks` meets its contract. The loop's invariant: the whole blocks from `at` on end where those from `start` on do.
 -- Assumes nothing.
-use mathlib.Core.Path.{◌≡◌, refl, sym, ◌∙◌}
+use mathlib.Core.Path.{◌≡◌}
 use Prim.Native.Nat.{◌+◌, ◌-◌, ◌*◌, ◌/◌, ◌≤◌}
-use native.Mathlib.Omega.{arith}
-use borrow.Author.Rules.{rules}
-use borrow.Author.Tests.{not-true, not-false}
-use lib.ListN.{length, drop, length-drop}
+use lib.ListN.{length, drop}
 use Rattle.utf8.specs.Private.Ascii.{ascii_run}
-use Rattle.utf8.proofs.Runs.{run-le, not-all-run, tested, past}
 use Rattle.utf8.proofs.ascii.past_blocks.Given as goal
 
 abbrev pub invariant-loop-at : goal.invariant-loop-at

@@ -1,11 +1,7 @@
 -- `utf8::ascii::past_bytes` meets its contract. The loop's invariant: i bytes of the part are ASCII. Assumes nothing.
 use Prim.Native.Nat.{◌-◌, ◌≤◌}
-use native.Mathlib.Omega.{arith}
-use borrow.Author.Rules.{rules}
 use Rattle.slices.specs.Parts.{part}
-use Rattle.slices.proofs.Parts.{length_part, get_d_part}
 use Rattle.utf8.specs.Private.Ascii.{ascii_run}
-use Rattle.utf8.proofs.Runs.{run-le, run-stops, run_more}
 use Rattle.utf8.proofs.ascii.past_bytes.Given as goal
 
 abbrev pub invariant-loop-i : goal.invariant-loop-i

@@ -1,11 +1,8 @@
 -- `utf8::ascii::word_at` meets its contract. The loop's invariant: i bytes are put together. Assumes nothing.
-use mathlib.Core.Path.{◌≡◌, refl}
-use Prim.Native.Nat.{◌+◌, ◌-◌, ◌≤◌}
-use native.Mathlib.Omega.{arith}
-use borrow.Author.Rules.{rules}
+use mathlib.Core.Path.{◌≡◌}
+use Prim.Native.Nat.{◌-◌, ◌≤◌}
 use Rattle.slices.specs.Parts.{part}
 use Rattle.utf8.specs.Private.Ascii.{little_endian}
-use Rattle.utf8.proofs.TopBits.{next-byte}
 use Rattle.utf8.proofs.ascii.word_at.Given as goal
 
 abbrev pub invariant-loop-i : goal.invariant-loop-i
