@@ -1,6 +1,5 @@
 -- `packing::header_length` meets its contract. Assumes nothing.
 use native.Mathlib.Omega.{arith}
-use borrow.Author.Rules.{rules}
 use borrow.Author.Tests.{lt-ltb, le-ltb}
 use Rattle.numbers.specs.BigEndian.{holds}
 use Rattle.packing.proofs.Packing.{narrowest-most}

@@ -1,7 +1,6 @@
 -- `packing::integer_width` meets its contract. Assumes nothing.
 use mathlib.Core.Path.{◌≡◌, sym, ◌∙◌}
 use mathlib.Core.Bool.{true, false}
-use borrow.Author.Rules.{rules}
 use mir.Facts.{to_z-of_z}
 use Rattle.numbers.specs.TwosComplement.{fits_in}
 use Rattle.packing.proofs.Packing.{is-1, is-2, is-4, is-8}

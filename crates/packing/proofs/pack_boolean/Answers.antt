@@ -1,9 +1,6 @@
 -- `packing::pack_boolean` meets its contract. Assumes nothing.
 use mathlib.Core.Path.{refl}
-use Prim.Native.Nat.{◌+◌, ◌≤◌}
 use native.Mathlib.Omega.{arith}
-use borrow.Author.Rules.{rules}
-use lib.ListN.{length}
 use Rattle.slices.proofs.Parts.{reaches-le}
 use Rattle.numbers.proofs.Access.{passed}
 use Rattle.refusal.specs.Answer.{returned}

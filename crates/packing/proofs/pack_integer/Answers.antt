@@ -1,9 +1,6 @@
 -- `packing::pack_integer` meets its contract. Assumes nothing.
-use mathlib.Core.Path.{◌≡◌, refl}
-use Prim.Native.Nat.{◌+◌, ◌≤◌}
+use mathlib.Core.Path.{refl}
 use native.Mathlib.Omega.{arith}
-use borrow.Author.Rules.{rules}
-use lib.ListN.{length}
 use mir.Facts.{to_z-of_z}
 use Rattle.slices.proofs.Parts.{reaches-le}
 use Rattle.numbers.proofs.Access.{passed}

@@ -1,13 +1,10 @@
--- `packing::pack_string` meets its contract. Each test is one of `stringForm`'s or that for room, in their order. Assumes nothing.
-use mathlib.Core.Path.{◌≡◌}
-use Prim.Native.Nat.{◌+◌, ◌≤◌}
+-- `packing::pack_string` meets its contract. Each test is one of `string_form`'s or that for room, in their order. Assumes nothing.
+use Prim.Native.Nat.{◌+◌}
 use native.Mathlib.Omega.{arith}
-use borrow.Author.Rules.{rules}
 use lib.Dec.{lit≤}
 use lib.ListN.{length}
 use Rattle.slices.proofs.Parts.{reaches-le}
 use Rattle.numbers.proofs.Access.{failed, passed}
-use Rattle.refusal.specs.Answer.{returned}
 use Rattle.refusal.specs.declared.Refusal.TheVariants.{TooLong, InvalidUtf8}
 use Rattle.packing.specs.Packing.{pack_string, string_form}
 use Rattle.packing.proofs.Packing.{header-most, length-string, string-room, string-put, string-long, string-invalid, string-formed, refuses, no_room, packs}
@@ -22,18 +19,18 @@ returns-then-size-gt-MOST_BYTES c =
 pub returns-then-not-is_utf8 : goal.returns-then-not-is_utf8
 returns-then-not-is_utf8 c =
     let a = c.args in
-    let both = refuses a.out.now a.at (string_form a.text.now) InvalidUtf8 (string-invalid a.text.now c.if-size-gt-MOST_BYTES.false (failed c.is_utf8.ensures c.if-not-is_utf8.true-raw)) in
+    let both = refuses a.out.now a.at (string_form a.text.now) InvalidUtf8 (string-invalid a.text.now (omega arith) (failed c.is_utf8.ensures c.if-not-is_utf8.true-raw)) in
     record { answer = both.0; filled = both.1 }
 
 pub overflow_add-total : goal.overflow_add-total
 overflow_add-total c =
     let a = c.args in
-    omega (arith, c.header_length-header.ensures, header-most (length a.text.now), c.if-size-gt-MOST_BYTES.false)
+    omega (arith, c.header_length-header.ensures, header-most (length a.text.now))
 
 pub returns-then-not-in_bounds : goal.returns-then-not-in_bounds
 returns-then-not-in_bounds c =
     let a = c.args in
-    let both = no_room a.out.now a.at (string_form a.text.now) (pack_string a.text.now) _ _ ((let v = c.args.text.now in string-formed v c.if-size-gt-MOST_BYTES.false (passed c.is_utf8.ensures c.if-not-is_utf8.false-raw)))
+    let both = no_room a.out.now a.at (string_form a.text.now) (pack_string a.text.now) _ _ ((let v = c.args.text.now in string-formed v (omega arith) (passed c.is_utf8.ensures c.if-not-is_utf8.false-raw)))
     (length-string a.text.now a.out.now a.at _ c.header_length-header.ensures) c.in_bounds.ensures c.if-not-in_bounds.true-raw in
     record { answer = both.0; filled = both.1 }
 
@@ -51,7 +48,7 @@ overflow_add-end c = omega (arith, (let a = c.args in reaches-le a.out.now a.at 
 pub returns : goal.returns
 returns c =
     let a = c.args in
-    let both = packs a.out.now a.at (string_form a.text.now) (pack_string a.text.now) _ _ ((let v = c.args.text.now in string-formed v c.if-size-gt-MOST_BYTES.false (passed c.is_utf8.ensures c.if-not-is_utf8.false-raw)))
+    let both = packs a.out.now a.at (string_form a.text.now) (pack_string a.text.now) _ _ ((let v = c.args.text.now in string-formed v (omega arith) (passed c.is_utf8.ensures c.if-not-is_utf8.false-raw)))
     (length-string a.text.now a.out.now a.at _ c.header_length-header.ensures) c.in_bounds.ensures _ c.if-not-in_bounds.false-raw
     (string-put a.text.now a.out.now a.at _ c.header_length-header.ensures _ _ (let a = c.args in reaches-le a.out.now a.at (c.header_length-header.result + length a.text.now) (passed c.in_bounds.ensures c.if-not-in_bounds.false-raw)) c.put_header.ensures c.copy.ensures.filled) in
     record { answer = both.0; filled = both.1 }

@@ -1,10 +1,8 @@
 -- `packing::pack_structure` meets its contract. Assumes nothing.
 use mathlib.Core.Path.{refl}
-use Prim.Native.Nat.{◌+◌, ◌≤◌}
 use native.Mathlib.Numerals.{add-one}
 use native.Mathlib.Omega.{arith}
-use borrow.Author.Rules.{rules}
-use lib.ListN.{length, length-set}
+use lib.ListN.{length-set}
 use Rattle.slices.proofs.Parts.{reaches-le}
 use Rattle.numbers.proofs.Access.{passed}
 use Rattle.refusal.specs.declared.Refusal.TheVariants.{TooLong}
@@ -21,7 +19,7 @@ returns-then-count-gt15 c =
 pub returns-then-not-in_bounds : goal.returns-then-not-in_bounds
 returns-then-not-in_bounds c =
     let a = c.args in
-    let both = no_room a.out.now a.at (structure_form a.tag a.count) (structure_header a.tag a.count) 2 _ (structure-formed a.tag a.count c.if-count-gt15.false) refl c.in_bounds.ensures c.if-not-in_bounds.true-raw in
+    let both = no_room a.out.now a.at (structure_form a.tag a.count) (structure_header a.tag a.count) 2 _ (structure-formed a.tag a.count (omega arith)) refl c.in_bounds.ensures c.if-not-in_bounds.true-raw in
     record { answer = both.0; filled = both.1 }
 
 pub bounds-out-at : goal.bounds-out-at
@@ -39,5 +37,5 @@ overflow_add-end c = omega (arith, (let a = c.args in reaches-le a.out.now a.at 
 pub returns : goal.returns
 returns c =
     let a = c.args in
-    let both = packs a.out.now a.at (structure_form a.tag a.count) (structure_header a.tag a.count) 2 _ (structure-formed a.tag a.count c.if-count-gt15.false) refl c.in_bounds.ensures _ c.if-not-in_bounds.false-raw (rw (add-one a.at)) in
+    let both = packs a.out.now a.at (structure_form a.tag a.count) (structure_header a.tag a.count) 2 _ (structure-formed a.tag a.count (omega arith)) refl c.in_bounds.ensures _ c.if-not-in_bounds.false-raw (rw (add-one a.at)) in
     record { answer = both.0; filled = both.1 }

@@ -1,7 +1,6 @@
 -- `packing::put_header` meets its contract. Assumes nothing.
 use mathlib.Core.Path.{◌∙◌}
 use native.Mathlib.Omega.{arith}
-use borrow.Author.Rules.{rules}
 use lib.ListN.{length-set}
 use Rattle.packing.proofs.Packing.{doublings-most, small-room, small_put, wide_room, header-put}
 use Rattle.packing.proofs.put_header.Goals as goal

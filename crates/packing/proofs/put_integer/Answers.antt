@@ -1,11 +1,8 @@
 -- `packing::put_integer` meets its contract. Assumes nothing.
-use mathlib.Core.Path.{◌≡◌, sym, ◌∙◌}
-use mathlib.Core.Bool.{true, false}
+use mathlib.Core.Path.{sym, ◌∙◌}
 use native.Mathlib.Omega.{arith}
-use borrow.Author.Rules.{rules}
 use lib.ListN.{length-set}
 use mir.Facts.{to_z-of_z}
-use Rattle.packing.specs.Packing.{is_tiny}
 use Rattle.packing.proofs.Packing.{doublings-most, fits-i64, tiny-put, wide-put, length-integer}
 use Rattle.packing.proofs.put_integer.Goals as goal
 
