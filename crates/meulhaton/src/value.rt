@@ -81,12 +81,7 @@ pub fn meulhaton_pack_dictionary(count: usize, out: &mut [u8], at: usize) -> Out
 }
 
 // The header of a Structure: `packing::pack_structure`.
-pub fn meulhaton_pack_structure(
-    tag: u8,
-    count: usize,
-    out: &mut [u8],
-    at: usize,
-) -> Output
+pub fn meulhaton_pack_structure(tag: u8, count: usize, out: &mut [u8], at: usize) -> Output
     ensures answer { result ≡ output_of (telling at (fitted out.old at (structure_form tag count))) }
     ensures filled { out.new ≡ left (leaves at) (fitted out.old at (structure_form tag count)) out.old }
 {

@@ -148,11 +148,7 @@ fn written(done: Written) -> Output
 }
 
 // The message in chunks: `framing::writer::write_chunks`.
-pub fn meulhaton_write_chunks(
-    message: &[u8],
-    chunk_size: usize,
-    out: &mut [u8],
-) -> Output
+pub fn meulhaton_write_chunks(message: &[u8], chunk_size: usize, out: &mut [u8]) -> Output
     ensures answer { result ≡ output_of (counted (writing chunk_size (length out.old) message.now)) }
     ensures filled { out.new ≡ left front (writing chunk_size (length out.old) message.now) out.old }
 {
