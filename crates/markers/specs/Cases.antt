@@ -1,5 +1,5 @@
 -- Extents at the edges, in one table under one statement. Assumes nothing.
-use Rattle.std.specs.Prelude.{◌≡◌, refl, List, [], ◌∷◌}
+use Rattle.std.specs.Prelude.{◌≡◌, refl, [], ◌∷◌}
 use Rattle.numbers.specs.BigEndian.{big_endian}
 use Rattle.numbers.specs.Access.{unsigned_at}
 use Rattle.refusal.specs.Answer.{returned, refused}

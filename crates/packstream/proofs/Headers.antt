@@ -9,7 +9,7 @@ use lib.ListN.{length, get_or}
 use borrow.Author.Tests.{lt-ltb, ne_eqb, ltb-true}
 use Rattle.slices.specs.Parts.{part, reaches}
 use Rattle.slices.proofs.Parts.{reaches-yes}
-use Rattle.numbers.specs.BigEndian.{big_endian, bytes_of, Bytes}
+use Rattle.numbers.specs.BigEndian.{big_endian, bytes_of}
 use Rattle.numbers.specs.Access.{is_width}
 use Rattle.numbers.specs.declared.Unsigned.TheVariants as U
 use Rattle.numbers.proofs.BigEndian.{length-bytes_of, read_back}

@@ -1,9 +1,6 @@
 -- `markers::extent::container_extent` meets its contract. Assumes nothing.
-use mathlib.Core.Path.{◌≡◌, sym, ◌∙◌, subst}
+use mathlib.Core.Path.{sym, ◌∙◌, subst}
 use native.Mathlib.Omega.{arith}
-use borrow.Author.Rules.{rules}
-use Rattle.numbers.specs.declared.Unsigned.TheVariants as U
-use Rattle.markers.specs.Extents.{size_at}
 use Rattle.markers.proofs.Extents.{NoNumber, size-inside, container-unsized, container-there}
 use Rattle.markers.proofs.extent.container_extent.Goals as goal
 

@@ -1,8 +1,6 @@
 -- `markers::extent::extent_at` meets its contract. Assumes nothing.
 use mathlib.Core.Path.{refl, ◌∙◌}
-use Prim.Native.Nat.{ℕ}
 use native.Mathlib.Omega.{arith}
-use borrow.Author.Rules.{rules}
 use lib.Bits.{bit_and, mask_lt}
 use lib.ListN.{get_or}
 use Rattle.markers.specs.Marker.{itself, small}

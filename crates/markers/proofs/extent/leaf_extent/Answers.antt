@@ -1,11 +1,6 @@
 -- `markers::extent::leaf_extent` meets its contract. Assumes nothing.
-use mathlib.Core.Path.{◌≡◌, sym, ◌∙◌, subst}
-use Prim.Native.Nat.{◌+◌, ◌≤◌}
+use mathlib.Core.Path.{sym, ◌∙◌, subst}
 use native.Mathlib.Omega.{arith}
-use borrow.Author.Rules.{rules}
-use lib.ListN.{length}
-use Rattle.numbers.specs.declared.Unsigned.TheVariants as U
-use Rattle.markers.specs.Extents.{size_at}
 use Rattle.markers.proofs.Extents.{NoNumber, size-inside, leaf-unsized, leaf-short, leaf-there}
 use Rattle.markers.proofs.extent.leaf_extent.Goals as goal
 

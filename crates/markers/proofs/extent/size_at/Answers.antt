@@ -1,6 +1,5 @@
 -- `markers::extent::size_at` meets its contract. Assumes nothing.
 use mathlib.Core.Path.{◌∙◌}
-use borrow.Author.Rules.{rules}
 use Rattle.markers.proofs.Extents.{size-itself, size-after}
 use Rattle.markers.proofs.extent.size_at.Goals as goal
 

@@ -1,7 +1,6 @@
 -- `markers::extent::small_string` meets its contract. Assumes nothing.
 use mathlib.Core.Path.{◌∙◌}
 use native.Mathlib.Omega.{arith}
-use borrow.Author.Rules.{rules}
 use Rattle.markers.proofs.Extents.{string-short, string-there}
 use Rattle.markers.proofs.extent.small_string.Goals as goal
 

@@ -1,6 +1,5 @@
 -- `markers::marker::constant` meets its contract. Assumes nothing.
 use mathlib.Core.Path.{refl, ◌∙◌}
-use borrow.Author.Rules.{rules}
 use borrow.Author.Tests.{ne_eqb}
 use Rattle.markers.proofs.Markers.{by-constant}
 use Rattle.markers.proofs.marker.constant.Goals as goal

@@ -1,6 +1,5 @@
 -- `markers::marker::sized` meets its contract. Assumes nothing.
 use mathlib.Core.Path.{◌∙◌}
-use borrow.Author.Rules.{rules}
 use Rattle.markers.proofs.Markers.{size-of-eight, size-of-fewer}
 use Rattle.markers.proofs.marker.sized.Goals as goal
 

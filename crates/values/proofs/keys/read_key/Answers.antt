@@ -1,12 +1,7 @@
 -- `values::keys::read_key` meets its contract. Assumes nothing.
-use mathlib.Core.Path.{◌≡◌, sym, ap, ◌∙◌}
-use mathlib.Core.List.{List}
-use Prim.Native.Nat.{ℕ}
-use borrow.Author.Rules.{rules}
+use mathlib.Core.Path.{sym, ap, ◌∙◌}
 use borrow.Author.Tests.{not-true, not-false}
-use Rattle.markers.specs.Extents.{key_extent_at}
 use Rattle.values.specs.Private.Keys.{key_of_parse, keys_of}
-use Rattle.markers.specs.declared.extent.Extent.TheVariants as E
 use Rattle.values.proofs.KeySearch.{key-by, leaf-key-inside, key-no-text, key-repeated, key-new}
 use Rattle.values.proofs.keys.read_key.Goals as goal
 

@@ -1,17 +1,15 @@
 -- `values::keys::repeats` meets its contract: the keys not yet looked at decide, and of the key looked at, the bytes not yet compared.
 -- Assumes nothing.
 use mathlib.Core.Path.{◌≡◌, refl, sym, ap, ◌∙◌}
-use mathlib.Core.Bool.{false}
 use mathlib.Core.List.{List}
 use Prim.Native.Nat.{ℕ, ◌+◌, ◌-◌, ◌≤◌, ◌<◌}
 use native.Mathlib.Omega.{arith}
-use borrow.Author.Rules.{rules}
 use lib.ListN.{length}
 use Rattle.slices.specs.Parts.{part}
 use Rattle.slices.specs.Equality.{same}
 use Rattle.values.specs.Private.Keys.{start_of, size_of, KeysInside}
-use Rattle.slices.proofs.Equality.{Comparing, comparing-none, other-size, all-equal, one-equal, one-differs}
-use Rattle.values.proofs.KeySearch.{last-differs, Searching, none_left, equal-key, other_key, key-inside-at}
+use Rattle.slices.proofs.Equality.{comparing-none, other-size, all-equal, one-equal, one-differs}
+use Rattle.values.proofs.KeySearch.{last-differs, none_left, equal-key, other_key, key-inside-at}
 use Rattle.values.proofs.keys.repeats.Goals as goal
 
 -- the key that a turn of the search looks at lies inside the message

@@ -1,6 +1,6 @@
 -- `values::leaf::integer_at` meets its contract. Assumes nothing.
 use mathlib.Core.Path.{sym, ◌∙◌}
-use borrow.Author.Rules.{rules, sfits_of}
+use borrow.Author.Rules.{sfits_of}
 use mir.Facts.{to_z-of_z}
 use Rattle.numbers.proofs.Access.{signed-found}
 use Rattle.values.proofs.Leaves.{signed-there}

@@ -1,6 +1,5 @@
 -- `values::leaf::is_text` meets its contract. Assumes nothing.
 use mathlib.Core.Path.{sym, ◌∙◌}
-use borrow.Author.Rules.{rules}
 use Rattle.values.proofs.leaf.is_text.Goals as goal
 
 pub returns-then-is_string : goal.returns-then-is_string

@@ -1,7 +1,6 @@
 -- `values::leaf::leaf_head` meets its contract. Assumes nothing.
 use mathlib.Core.Path.{ap, ◌∙◌}
 use native.Mathlib.Omega.{arith}
-use borrow.Author.Rules.{rules}
 use mir.Facts.{to_z-of_z}
 use Rattle.values.specs.declared.head.Head.TheVariants as H
 use Rattle.values.proofs.Leaves.{null-head, boolean-head, integer-head, float-head, bytes-head, string-head, boolean-size, integer-size, float_size}

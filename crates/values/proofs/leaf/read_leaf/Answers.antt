@@ -1,6 +1,5 @@
 -- `values::leaf::read_leaf` meets its contract. Assumes nothing.
 use mathlib.Core.Path.{sym, ap, ◌∙◌}
-use borrow.Author.Rules.{rules}
 use borrow.Author.Tests.{not-true, not-false}
 use Rattle.values.specs.Private.Steps.{step_of}
 use Rattle.values.proofs.Leaves.{leaf-text, leaf-no-text}

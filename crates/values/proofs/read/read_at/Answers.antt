@@ -1,10 +1,6 @@
 -- `values::read::read_at` meets its contract. Assumes nothing.
-use mathlib.Core.Path.{◌≡◌, sym, ap, ◌∙◌}
-use borrow.Author.Rules.{rules}
-use Rattle.values.specs.Decode.{value_at}
+use mathlib.Core.Path.{sym, ap, ◌∙◌}
 use Rattle.values.specs.Reading.{told, tell_value}
-use Rattle.values.specs.Private.Steps.{step_of}
-use Rattle.values.specs.declared.step.Step.TheVariants as S
 use Rattle.values.proofs.Answers.{value-too-long, value-not-long, read_head, read-no-head, read-stopped}
 use Rattle.values.proofs.read.read_at.Goals as goal
 

@@ -1,6 +1,5 @@
 -- `values::read::read_long` meets its contract. Assumes nothing.
 use native.Mathlib.Omega.{arith}
-use borrow.Author.Rules.{rules}
 use Rattle.values.proofs.read.read_long.Goals as goal
 
 pub value-requires : goal.value-requires

@@ -1,6 +1,5 @@
 -- `values::read::read_message` meets its contract. Assumes nothing.
 use mathlib.Core.Path.{sym, ap, ◌∙◌}
-use borrow.Author.Rules.{rules}
 use Rattle.values.specs.Decode.{value_in}
 use Rattle.markers.specs.Extents.{most_open}
 use Rattle.values.specs.Reading.{told, tell_message}

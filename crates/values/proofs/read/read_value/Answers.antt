@@ -1,5 +1,4 @@
 -- `values::read::read_value` meets its contract. Assumes nothing.
-use borrow.Author.Rules.{rules}
 use borrow.Author.Tests.{lt-ltb, le-ltb}
 use Rattle.markers.specs.Extents.{most_open}
 use Rattle.values.proofs.read.read_value.Goals as goal

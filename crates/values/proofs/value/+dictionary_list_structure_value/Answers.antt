@@ -1,5 +1,5 @@
 -- The readers of `values::value` meet their contracts. Assumes nothing.
-use Rattle.std.proofs.Common.{◌≡◌, ℕ, ◌+◌, ◌-◌, ◌*◌, ◌≤◌, ◌<◌, List, length, take, refl, sym, ap, ◌∙◌, subst, arith}
+use Rattle.std.proofs.Common.{◌≡◌, ℕ, ◌+◌, ◌*◌, ◌≤◌, ◌<◌, List, length, take, refl, sym, ap, ◌∙◌, subst, arith}
 use Rattle.std.proofs.Math.ListN.{length-set}
 use Rattle.markers.specs.Extents.{extent_at}
 use Rattle.values.specs.Decode.{value_at, key_at}
@@ -12,7 +12,7 @@ use Rattle.values.specs.declared.keys.Key.TheVariants as Y
 use Rattle.markers.proofs.Extents.{Inside, extent-inside, room_for}
 use Rattle.values.proofs.KeySearch.{KeyRead, key-read, key-refused}
 use Rattle.values.proofs.Scratch.{take_less, length-keep, take-keep, keep, keys_kept, inside-kept}
-use Rattle.values.proofs.Steps.{step-to, step-refused, value-bounds, by-leaf, by-refused, container-as, by-items, by_entries_lem, ItemsLeft, items-none, items-done, items-next, items-stop, EntriesLeft, entries_none, entries-done, entries-stop, entries-halt, entries_next, no-tag, by-fields}
+use Rattle.values.proofs.Steps.{step-to, step-refused, value-bounds, by-leaf, by-refused, container-as, by-items, by_entries_lem, items-none, items-done, items-next, items-stop, EntriesLeft, entries_none, entries-done, entries-stop, entries-halt, entries_next, no-tag, by-fields}
 use Rattle.values.proofs.value.+dictionary_list_structure_value.Goals as goal
 
 -- ---- value
@@ -301,7 +301,7 @@ dictionary-bounds-scratch-next-in-String t c =
     let a = c.args in
     let l = c.loop-i in
     let r = turn a.message.now l.scratch a.scratch.now a.first a.top l.at l.i c.in-String.start c.in-String.size c.requires.0 l.invariant.0 l.invariant.2 c.in-String.ensures in
-    omega (arith, r.places, length-set l.scratch (a.top + 2 * l.i) c.in-String.start)
+    simp length-set (omega (arith, r.places))
 
 pub dictionary-value-item-requires : goal.dictionary-value-item-requires
 dictionary-value-item-requires t c =
@@ -311,7 +311,7 @@ dictionary-value-item-requires t c =
     let room = c.requires.0 in
     let enough = room.enough in (
       omega (arith, r.key.past, l.invariant.1),
-      record { short = room.short; enough = omega (arith, length-keep l.scratch (a.top + 2 * l.i) c.in-String.start c.in-String.size, l.invariant.2); below = r.under },
+      record { short = room.short; enough = simp length-set (omega (arith, l.invariant.2)); below = r.under },
     )
 
 pub dictionary-returns-in-Refused-item : goal.dictionary-returns-in-Refused-item

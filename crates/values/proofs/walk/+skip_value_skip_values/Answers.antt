@@ -1,5 +1,5 @@
 -- Functions `values::walk::skip_value` and `skip_values` meet their contracts. Assumes nothing.
-use Rattle.std.proofs.Common.{◌≤◌, sym, ◌∙◌, subst, arith}
+use Rattle.std.proofs.Common.{sym, ◌∙◌, subst, arith}
 use Rattle.values.specs.Walk.{skip_within}
 use Rattle.markers.specs.declared.kind.Container.TheVariants as C
 use Rattle.markers.proofs.Extents.{Inside, extent-inside, room_for, count-bound}

@@ -1,8 +1,6 @@
 -- `values::walk::peek` meets its contract. Assumes nothing.
-use mathlib.Core.Path.{◌≡◌, sym, ap, ◌∙◌, subst}
-use borrow.Author.Rules.{rules}
-use Rattle.markers.specs.Extents.{extent_at, most_open}
-use Rattle.markers.specs.declared.extent.Extent.TheVariants as E
+use mathlib.Core.Path.{sym, ap, ◌∙◌, subst}
+use Rattle.markers.specs.Extents.{most_open}
 use Rattle.values.specs.declared.walk.Peeked.TheVariants as P
 use Rattle.markers.proofs.Extents.{Inside, extent-inside}
 use Rattle.values.proofs.Passing.{peek-leaf, peek-list, peek-dictionary, peek-no-tag, peek-tag, peek-nothing}
