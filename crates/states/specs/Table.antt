@@ -1,6 +1,6 @@
 -- The state table: document 01, "Connection record", from the fresh record to Close and the refusals for calls except 24, as a machine over
 -- lists that is fed the calls' arguments alone. Assumes nothing.
-use Rattle.std.specs.Prelude.{ℕ, ◌+◌, ◌-◌, Bool, true, false, cond, not, ◌&&◌, ◌||◌, List, [], ◌∷◌, ◌++◌, eqb, leb, length}
+use Rattle.std.specs.Prelude.{ℕ, ◌+◌, Bool, true, false, cond, not, ◌&&◌, ◌||◌, List, [], ◌∷◌, ◌++◌, eqb, leb, length}
 use Rattle.refusal.specs.Answer.{Answer, returned, refused}
 use Rattle.states.specs.declared.state.State.{State}
 use Rattle.states.specs.declared.state.State.TheVariants.{Connected, Ready, Streaming, Failed, Interrupted, Defunct}

@@ -1,9 +1,8 @@
 -- The calls by the tests that each makes first. Assumes nothing.
 use mathlib.Core.Path.{◌≡◌, sym, ap, ◌∙◌}
-use mathlib.Core.Bool.{Bool, true, false, cond, not}
+use mathlib.Core.Bool.{Bool, true, false, cond}
 use lib.Dec.{leb}
 use lib.ListN.{length}
-use borrow.Author.Tests.{not-true, not-false}
 use Rattle.refusal.specs.Answer.{Answer, returned, refused}
 use Rattle.states.specs.declared.state.State.{State}
 use Rattle.states.specs.declared.state.State.TheVariants.{Defunct}
@@ -18,11 +17,11 @@ use Rattle.record.specs.Calls.{Storing, storing, carried, called, arrive_of}
 
 -- ---- what the check of the rules told, and a test of the state
 module _ (c : Connection) {r : Bool} (told : r ≡ keeps_rules c) where
-  pub breaks : not r ≡ true → keeps_rules c ≡ false
-  breaks t = sym told ∙ not-true r t
+  pub breaks : r ≡ false → keeps_rules c ≡ false
+  breaks t = sym told ∙ t
 
-  pub keeps : not r ≡ false → keeps_rules c ≡ true
-  keeps t = sym told ∙ not-false r t
+  pub keeps : r ≡ true → keeps_rules c ≡ true
+  keeps t = sym told ∙ t
 
 pub state-test : (k : Control) (q : State) {s : State} {r b : Bool} → s ≡ state_in k → r ≡ in_state s q → r ≡ b → in_state (state_in k) q ≡ b
 state-test k q p e t = ap (λ (s : State). in_state s q) (sym p) ∙ sym e ∙ t

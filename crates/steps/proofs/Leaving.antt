@@ -1,12 +1,12 @@
 -- What arrive, take and close leave of a record, and answer, is what their calls say. Assumes nothing.
 use mathlib.Core.Path.{◌≡◌, refl, sym, ap, ◌∙◌}
-use mathlib.Core.Bool.{Bool, true, false, cond, not}
+use mathlib.Core.Bool.{Bool, true, false, cond}
 use mathlib.Core.List.{List, map}
 use Prim.Native.Nat.{ℕ, ◌-◌, ◌+◌, ◌<◌, ◌≤◌}
 use lib.Dec.{leb}
 use lib.IntN.{ℤ}
 use lib.ListN.{length, set}
-use borrow.Author.Tests.{not-true, not-false, eq-eqb, ne_eqb, le-leb, lt-leb}
+use borrow.Author.Tests.{eq-eqb, ne_eqb, le-leb, lt-leb}
 use Rattle.refusal.specs.Answer.{returned, refused}
 use Rattle.bolt.specs.Requests.{tag, RESET}
 use Rattle.states.specs.declared.state.State.{State}
@@ -83,18 +83,18 @@ module _ (c : Connection) where
           ap (carried (storing q) c) (arrive-by (kept c) q (sym told ∙ e) p (ap (leb 32) (size k c.streams c.kinds c.counts c.qids) ∙ u))
           ∙ go_on (storing q) c (cond (in_range q) (cond (leb 4294967295 k.accepted) (refused 20 0) (cond (leb 32 (length waiting)) (refused 17 0) (returned (accept (kept c) q)))) (refused 27 0)) keeps alive
 
-      pub out_of_range_lem : not y ≡ true → record { connection = c; answer = refused 27 0 } ≡ arrive_of c q
-      out_of_range_lem e = by-arrival (not-true y e) refl refl
+      pub out_of_range_lem : y ≡ false → record { connection = c; answer = refused 27 0 } ≡ arrive_of c q
+      out_of_range_lem e = by-arrival e refl refl
 
-      module _ (e : not y ≡ false) where
+      module _ (e : y ≡ true) where
         pub at-limit : 4294967295 ≤ k.accepted → record { connection = c; answer = refused 20 0 } ≡ arrive_of c q
-        at-limit p = by-arrival (not-false y e) (le-leb 4294967295 k.accepted p) refl
+        at-limit p = by-arrival e (le-leb 4294967295 k.accepted p) refl
 
         pub queue-full : k.accepted < 4294967295 → 32 ≤ k.waiting → record { connection = c; answer = refused 17 0 } ≡ arrive_of c q
-        queue-full p u = by-arrival (not-false y e) (lt-leb 4294967295 k.accepted p) (le-leb 32 k.waiting u)
+        queue-full p u = by-arrival e (lt-leb 4294967295 k.accepted p) (le-leb 32 k.waiting u)
 
         pub comes-in : k.accepted < 4294967295 → k.waiting < 32 → {a : After} → a ≡ carried (storing q) c (returned (accept (kept c) q)) → a ≡ arrive_of c q
-        comes-in p u g = g ∙ by-arrival (not-false y e) (lt-leb 4294967295 k.accepted p) (lt-leb 32 k.waiting u)
+        comes-in p u g = g ∙ by-arrival e (lt-leb 4294967295 k.accepted p) (lt-leb 32 k.waiting u)
 
   -- ---- the turn of the first
   abbrev r : Request

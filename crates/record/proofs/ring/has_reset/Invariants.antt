@@ -1,11 +1,7 @@
 -- `record::ring::has_reset` meets its contract. The loop's invariant: what is left to scan decides. Assumes nothing.
-use borrow.Author.Rules.{rules}
-use mathlib.Core.Path.{◌≡◌, refl, sym, ap, ◌∙◌}
-use Prim.Native.Nat.{ℕ, ◌-◌}
-use borrow.Author.Tests.{eq-eqb, ne_eqb}
+use mathlib.Core.Path.{◌≡◌}
 use Rattle.states.specs.Requests.{any}
 use Rattle.record.specs.Ring.{lined, kind_at, is_reset}
-use Rattle.record.proofs.Places.{found, passed, ended}
 use Rattle.record.proofs.ring.has_reset.Given as goal
 
 abbrev pub invariant-loop-left : goal.invariant-loop-left

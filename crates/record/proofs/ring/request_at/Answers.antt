@@ -1,7 +1,7 @@
 -- `record::ring::request_at` meets its contract. Assumes nothing.
-use borrow.Author.Rules.{rules}
 use mathlib.Core.Path.{◌∙◌}
 use Prim.Native.Nat.{◌%◌}
+use native.Mathlib.Omega.{arith}
 use lib.IntN.{pos}
 use lib.ListN.{get_or}
 use Rattle.record.specs.Names.{request_of}
@@ -14,4 +14,4 @@ returns c =
     let a = c.args in
     let p = a.at % 32 in
     c.request_of.ensures ∙ both-held (request_of (kind_at a.kinds.now a.at)) (get_or a.counts.now p (pos 0)) (get_or a.qids.now p (pos 0))
-    (record { sfits = c.n-1.given }) (record { sfits = c.qid-1.given })
+    (record { sfits = omega arith }) (record { sfits = omega arith })

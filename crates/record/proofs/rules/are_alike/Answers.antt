@@ -1,5 +1,4 @@
 -- `record::rules::are_alike` meets its contract: by the first. Assumes nothing.
-use borrow.Author.Rules.{rules}
 use Rattle.states.proofs.Bools.{alike-yes}
 use Rattle.record.proofs.rules.are_alike.Goals as goal
 

@@ -1,5 +1,4 @@
 -- `record::rules::flight_holds` meets its contract: by the tests passed. Assumes nothing.
-use borrow.Author.Rules.{rules}
 use mathlib.Core.Path.{sym, ◌∙◌}
 use Rattle.states.specs.Rules.{may_be_in_flight}
 use Rattle.record.specs.Record.{open_in}

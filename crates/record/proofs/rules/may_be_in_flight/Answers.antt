@@ -1,5 +1,4 @@
 -- `record::rules::may_be_in_flight` meets its contract: by the state. Assumes nothing.
-use borrow.Author.Rules.{rules}
 use mathlib.Core.Path.{sym, ◌∙◌}
 use Rattle.states.proofs.Standing.{may-in, may-out}
 use Rattle.record.specs.Record.{open_of}

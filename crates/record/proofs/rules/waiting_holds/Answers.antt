@@ -1,5 +1,4 @@
 -- `record::rules::waiting_holds` meets its contract: by what was seen. Assumes nothing.
-use borrow.Author.Rules.{rules}
 use mathlib.Core.Path.{sym, ap, ◌∙◌}
 use mathlib.Core.Bool.{not}
 use Rattle.record.specs.Private.Seen.{seen_holds}

@@ -1,12 +1,11 @@
 -- `record::scan::scan` meets its contract. The loop's invariant: what is left decides, with the flag so far. Assumes nothing.
-use borrow.Author.Rules.{rules}
 use borrow.Author.Tests.{ne_eqb}
-use mathlib.Core.Path.{◌≡◌, refl, sym, ap, ◌∙◌}
+use mathlib.Core.Path.{refl, sym, ap, ◌∙◌}
 use mathlib.Core.Bool.{true, not}
-use Rattle.record.specs.Private.Seen.{seen_of}
-use Rattle.record.specs.Ring.{lined, place_at, is_reset}
+use native.Mathlib.Omega.{arith}
+use Rattle.record.specs.Ring.{place_at, is_reset}
 use Rattle.record.proofs.Numbers.{both-held}
-use Rattle.record.proofs.Pass.{seen_from, numbers_out, pass-wrong, pass_on, pass-with, pass-without, flag-stays, flag-set, pull-wrong, discard-wrong, reset-right, other-wrong, other-right}
+use Rattle.record.proofs.Pass.{numbers_out, pass-wrong, pass_on, pass-with, pass-without, flag-stays, flag-set, pull-wrong, discard-wrong, reset-right, other-wrong, other-right}
 use Rattle.record.proofs.scan.scan.Goals as goal
 
 pub loop-left-init : goal.loop-left-init
@@ -19,7 +18,7 @@ returns-then-are_out_of_range c =
     let g = place_at a.kinds.now a.counts.now a.qids.now in
     let p = g l.at in
     let e = c.are_out_of_range.ensures
-    ∙ both-held numbers_out p.n p.qid (record { sfits = c.n-1.given }) (record { sfits = c.qid-1.given }) in
+    ∙ both-held numbers_out p.n p.qid (record { sfits = omega arith }) (record { sfits = omega arith }) in
     sym
     (l.invariant
     ∙ pass-wrong l.reset g l.at l.left c.loop-left-test.true
@@ -32,7 +31,7 @@ loop-left-preserved-then-kind-eq-PULL c =
     let g = place_at a.kinds.now a.counts.now a.qids.now in
     let p = g l.at in
     let e = c.are_out_of_range.ensures
-    ∙ both-held numbers_out p.n p.qid (record { sfits = c.n-1.given }) (record { sfits = c.qid-1.given }) in
+    ∙ both-held numbers_out p.n p.qid (record { sfits = omega arith }) (record { sfits = omega arith }) in
     l.invariant
     ∙ pass_on l.reset g l.at l.left c.behind-at.result l.reset c.loop-left-test.true
     (pull-wrong p c.if-kind-eq-PULL.true ∙ sym e ∙ c.if-are_out_of_range.false)
@@ -46,7 +45,7 @@ returns-then-are_out_of_range-2 c =
     let g = place_at a.kinds.now a.counts.now a.qids.now in
     let p = g l.at in
     let e = c.are_out_of_range-then-kind-eq-DISCARD.ensures
-    ∙ both-held numbers_out p.n p.qid (record { sfits = c.n-then-kind-eq-DISCARD-1.given }) (record { sfits = c.qid-then-kind-eq-DISCARD-1.given }) in
+    ∙ both-held numbers_out p.n p.qid (record { sfits = omega arith }) (record { sfits = omega arith }) in
     sym
     (l.invariant
     ∙ pass-wrong l.reset g l.at l.left c.loop-left-test.true
@@ -59,7 +58,7 @@ loop-left-preserved-then-kind-eq-DISCARD c =
     let g = place_at a.kinds.now a.counts.now a.qids.now in
     let p = g l.at in
     let e = c.are_out_of_range-then-kind-eq-DISCARD.ensures
-    ∙ both-held numbers_out p.n p.qid (record { sfits = c.n-then-kind-eq-DISCARD-1.given }) (record { sfits = c.qid-then-kind-eq-DISCARD-1.given }) in
+    ∙ both-held numbers_out p.n p.qid (record { sfits = omega arith }) (record { sfits = omega arith }) in
     l.invariant
     ∙ pass_on l.reset g l.at l.left c.behind-at.result l.reset c.loop-left-test.true
     (discard-wrong p c.if-kind-eq-DISCARD.true ∙ sym e ∙ c.if-are_out_of_range-2.false)
@@ -87,7 +86,7 @@ returns-then-not-is_request c =
     sym
     (l.invariant
     ∙ pass-wrong l.reset g l.at l.left c.loop-left-test.true
-    (other-wrong p (sym (ap not c.is_request.ensures) ∙ c.if-not-is_request.true-raw)))
+    (other-wrong p (ap not (sym c.is_request.ensures ∙ c.if-not-is_request.true))))
 
 pub loop-left-preserved : goal.loop-left-preserved
 loop-left-preserved c =
@@ -97,7 +96,7 @@ loop-left-preserved c =
     let p = g l.at in
     l.invariant
     ∙ pass_on l.reset g l.at l.left c.behind-at.result l.reset c.loop-left-test.true
-    (other-right p c.if-kind-eq-PULL.false c.if-kind-eq-DISCARD.false (sym (ap not c.is_request.ensures) ∙ c.if-not-is_request.false-raw))
+    (other-right p c.if-kind-eq-PULL.false c.if-kind-eq-DISCARD.false (ap not (sym c.is_request.ensures ∙ c.if-not-is_request.false)))
     (flag-stays l.reset p (ne_eqb _ _ c.if-kind-eq-RESET.false))
     c.behind-at.ensures
 

@@ -1,12 +1,8 @@
 -- `record::scan::scan` meets its contract. The loop's invariant: what is left decides, with the flag so far. Assumes nothing.
-use borrow.Author.Rules.{rules}
-use borrow.Author.Tests.{ne_eqb}
-use mathlib.Core.Path.{◌≡◌, refl, sym, ap, ◌∙◌}
-use mathlib.Core.Bool.{true, not}
+use mathlib.Core.Path.{◌≡◌}
 use Rattle.record.specs.Private.Seen.{seen_of}
-use Rattle.record.specs.Ring.{lined, place_at, is_reset}
-use Rattle.record.proofs.Numbers.{both-held}
-use Rattle.record.proofs.Pass.{seen_from, numbers_out, pass-wrong, pass_on, pass-with, pass-without, flag-stays, flag-set, pull-wrong, discard-wrong, reset-right, other-wrong, other-right}
+use Rattle.record.specs.Ring.{lined, place_at}
+use Rattle.record.proofs.Pass.{seen_from}
 use Rattle.record.proofs.scan.scan.Given as goal
 
 abbrev pub invariant-loop-left : goal.invariant-loop-left

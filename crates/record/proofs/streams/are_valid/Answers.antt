@@ -1,9 +1,5 @@
 -- `record::streams::are_valid` meets its contract. The loop's invariant: what is left to check decides. Assumes nothing.
-use borrow.Author.Rules.{rules}
-use mathlib.Core.Path.{◌≡◌, refl, sym, ◌∙◌}
-use Prim.Native.Nat.{◌-◌}
-use lib.ListN.{take, drop}
-use Rattle.states.specs.Rules.{distinct_below}
+use mathlib.Core.Path.{refl, sym, ◌∙◌}
 use Rattle.record.proofs.Opened.{too-high, again, right, all_right}
 use Rattle.record.proofs.streams.are_valid.Goals as goal
 

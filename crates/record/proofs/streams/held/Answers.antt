@@ -1,5 +1,4 @@
 -- `record::streams::held` meets its contract: by the array's length. Assumes nothing.
-use borrow.Author.Rules.{rules}
 use Rattle.record.proofs.Opened.{open-size, open-few}
 use Rattle.record.proofs.streams.held.Goals as goal
 

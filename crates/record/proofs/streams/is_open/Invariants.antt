@@ -1,12 +1,8 @@
 -- `record::streams::is_open` meets its contract. The loop's invariant: what is left to scan decides. Assumes nothing.
-use borrow.Author.Rules.{rules}
-use mathlib.Core.Path.{◌≡◌, refl, sym, ◌∙◌}
-use Prim.Native.Nat.{ℕ, ◌-◌}
-use lib.Dec.{eqb}
+use mathlib.Core.Path.{◌≡◌}
+use Prim.Native.Nat.{◌-◌}
 use lib.ListN.{take, drop}
-use borrow.Author.Tests.{eq-eqb, ne_eqb}
 use Rattle.states.specs.Table.{has}
-use Rattle.record.proofs.Opened.{found, passed, ended}
 use Rattle.record.proofs.streams.is_open.Given as goal
 
 abbrev pub invariant-loop-i : goal.invariant-loop-i

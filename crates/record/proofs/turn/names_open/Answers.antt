@@ -1,5 +1,4 @@
 -- `record::turn::names_open` meets its contract: by the state. Assumes nothing.
-use borrow.Author.Rules.{rules}
 use mathlib.Core.Path.{sym, ap, ◌∙◌}
 use Prim.Native.Nat.{ℕ}
 use lib.ListN.{take}

@@ -1,9 +1,8 @@
 -- `record::turn::turn_of` meets its contract: by the tests passed. Assumes nothing.
-use borrow.Author.Rules.{rules}
 use mathlib.Core.Path.{◌≡◌, refl, sym, ap, ◌∙◌}
 use mathlib.Core.Bool.{Bool, true, false, cond, not, ◌&&◌}
 use lib.Dec.{leb}
-use borrow.Author.Tests.{eq-eqb, ne_eqb, not-true, not-false}
+use borrow.Author.Tests.{eq-eqb, ne_eqb}
 use Rattle.states.specs.declared.state.State.{State}
 use Rattle.states.specs.declared.request.Request.{Request}
 use Rattle.states.specs.declared.turn.Turn.TheVariants.{Full, Unknown, Handed}
@@ -37,19 +36,39 @@ returns-then-not-hands_over c =
     let a = c.args in
     sym
     (turn_by a.state (open_of a.streams.now a.opened a.next) a.request (ne_eqb _ _ (λ x. c.if-tag-eq-RESET.false (c.tag-tag.ensures ∙ x)))
-    (sym c.is_ignored.ensures ∙ c.if-is_ignored.false) (sym c.hands_over.ensures ∙ not-true _ c.if-not-hands_over.true-raw) refl refl refl refl)
+    (sym c.is_ignored.ensures ∙ c.if-is_ignored.false) (sym c.hands_over.ensures ∙ c.if-not-hands_over.true) refl refl refl refl)
 
 pub returns-then-is_full : goal.returns-then-is_full
-returns-then-is_full c = over c.args.state (open_of c.args.streams.now c.args.opened c.args.next) c.args.request (ne_eqb _ _ (λ x. c.if-tag-eq-RESET.false (c.tag-tag.ensures ∙ x))) (sym c.is_ignored.ensures ∙ c.if-is_ignored.false) (sym c.hands_over.ensures ∙ not-false _ c.if-not-hands_over.false-raw) (eq-eqb _ _ (sym c.tag-tag.ensures ∙ c.if-tag-eq-RUN.true)) (full_by c.args.state (open_of c.args.streams.now c.args.opened c.args.next) refl (ap (leb 8) (sym c.held.ensures.0)) refl ∙ sym c.is_full.ensures ∙ c.if-is_full.true) refl refl
+returns-then-is_full c =
+    let a = c.args in
+    let o = open_of a.streams.now a.opened a.next in
+    let handed = sym c.hands_over.ensures ∙ c.if-not-hands_over.false in
+    over a.state o a.request (ne_eqb _ _ (λ x. c.if-tag-eq-RESET.false (c.tag-tag.ensures ∙ x))) (sym c.is_ignored.ensures ∙ c.if-is_ignored.false) handed (eq-eqb _ _ (sym c.tag-tag.ensures ∙ c.if-tag-eq-RUN.true)) (full_by a.state o refl (ap (leb 8) (sym c.held.ensures.0)) refl ∙ sym c.is_full.ensures ∙ c.if-is_full.true) refl refl
 
 pub returns-then-tag-eq-RUN : goal.returns-then-tag-eq-RUN
-returns-then-tag-eq-RUN c = over c.args.state (open_of c.args.streams.now c.args.opened c.args.next) c.args.request (ne_eqb _ _ (λ x. c.if-tag-eq-RESET.false (c.tag-tag.ensures ∙ x))) (sym c.is_ignored.ensures ∙ c.if-is_ignored.false) (sym c.hands_over.ensures ∙ not-false _ c.if-not-hands_over.false-raw) (eq-eqb _ _ (sym c.tag-tag.ensures ∙ c.if-tag-eq-RUN.true)) (full_by c.args.state (open_of c.args.streams.now c.args.opened c.args.next) refl (ap (leb 8) (sym c.held.ensures.0)) refl ∙ sym c.is_full.ensures ∙ c.if-is_full.false) (run-fetches ((c.args.request)) (eq-eqb _ _ (sym c.tag-tag.ensures ∙ c.if-tag-eq-RUN.true))) refl
+returns-then-tag-eq-RUN c =
+    let a = c.args in
+    let o = open_of a.streams.now a.opened a.next in
+    let handed = sym c.hands_over.ensures ∙ c.if-not-hands_over.false in
+    over a.state o a.request (ne_eqb _ _ (λ x. c.if-tag-eq-RESET.false (c.tag-tag.ensures ∙ x))) (sym c.is_ignored.ensures ∙ c.if-is_ignored.false) handed (eq-eqb _ _ (sym c.tag-tag.ensures ∙ c.if-tag-eq-RUN.true)) (full_by a.state o refl (ap (leb 8) (sym c.held.ensures.0)) refl ∙ sym c.is_full.ensures ∙ c.if-is_full.false) (run-fetches a.request (eq-eqb _ _ (sym c.tag-tag.ensures ∙ c.if-tag-eq-RUN.true))) refl
 
 pub returns-then-names_open : goal.returns-then-names_open
-returns-then-names_open c = over c.args.state (open_of c.args.streams.now c.args.opened c.args.next) c.args.request (ne_eqb _ _ (λ x. c.if-tag-eq-RESET.false (c.tag-tag.ensures ∙ x))) (sym c.is_ignored.ensures ∙ c.if-is_ignored.false) (sym c.hands_over.ensures ∙ not-false _ c.if-not-hands_over.false-raw) (ne_eqb _ _ (λ x. c.if-tag-eq-RUN.false (c.tag-tag.ensures ∙ x))) refl (sym c.fetches.ensures ∙ c.if-fetches.true) (sym c.names_open.ensures ∙ c.if-names_open.true)
+returns-then-names_open c =
+    let a = c.args in
+    let o = open_of a.streams.now a.opened a.next in
+    let handed = sym c.hands_over.ensures ∙ c.if-not-hands_over.false in
+    over a.state o a.request (ne_eqb _ _ (λ x. c.if-tag-eq-RESET.false (c.tag-tag.ensures ∙ x))) (sym c.is_ignored.ensures ∙ c.if-is_ignored.false) handed (ne_eqb _ _ (λ x. c.if-tag-eq-RUN.false (c.tag-tag.ensures ∙ x))) refl (sym c.fetches.ensures ∙ c.if-fetches.true) (sym c.names_open.ensures ∙ c.if-names_open.true)
 
 pub returns-then-fetches : goal.returns-then-fetches
-returns-then-fetches c = over c.args.state (open_of c.args.streams.now c.args.opened c.args.next) c.args.request (ne_eqb _ _ (λ x. c.if-tag-eq-RESET.false (c.tag-tag.ensures ∙ x))) (sym c.is_ignored.ensures ∙ c.if-is_ignored.false) (sym c.hands_over.ensures ∙ not-false _ c.if-not-hands_over.false-raw) (ne_eqb _ _ (λ x. c.if-tag-eq-RUN.false (c.tag-tag.ensures ∙ x))) refl (sym c.fetches.ensures ∙ c.if-fetches.true) (sym c.names_open.ensures ∙ c.if-names_open.false)
+returns-then-fetches c =
+    let a = c.args in
+    let o = open_of a.streams.now a.opened a.next in
+    let handed = sym c.hands_over.ensures ∙ c.if-not-hands_over.false in
+    over a.state o a.request (ne_eqb _ _ (λ x. c.if-tag-eq-RESET.false (c.tag-tag.ensures ∙ x))) (sym c.is_ignored.ensures ∙ c.if-is_ignored.false) handed (ne_eqb _ _ (λ x. c.if-tag-eq-RUN.false (c.tag-tag.ensures ∙ x))) refl (sym c.fetches.ensures ∙ c.if-fetches.true) (sym c.names_open.ensures ∙ c.if-names_open.false)
 
 pub returns : goal.returns
-returns c = over c.args.state (open_of c.args.streams.now c.args.opened c.args.next) c.args.request (ne_eqb _ _ (λ x. c.if-tag-eq-RESET.false (c.tag-tag.ensures ∙ x))) (sym c.is_ignored.ensures ∙ c.if-is_ignored.false) (sym c.hands_over.ensures ∙ not-false _ c.if-not-hands_over.false-raw) (ne_eqb _ _ (λ x. c.if-tag-eq-RUN.false (c.tag-tag.ensures ∙ x))) refl (sym c.fetches.ensures ∙ c.if-fetches.false) refl
+returns c =
+    let a = c.args in
+    let o = open_of a.streams.now a.opened a.next in
+    let handed = sym c.hands_over.ensures ∙ c.if-not-hands_over.false in
+    over a.state o a.request (ne_eqb _ _ (λ x. c.if-tag-eq-RESET.false (c.tag-tag.ensures ∙ x))) (sym c.is_ignored.ensures ∙ c.if-is_ignored.false) handed (ne_eqb _ _ (λ x. c.if-tag-eq-RUN.false (c.tag-tag.ensures ∙ x))) refl (sym c.fetches.ensures ∙ c.if-fetches.false) refl

@@ -1,5 +1,4 @@
 -- `states::request::are_in_range` meets its contract: by the first test. Assumes nothing.
-use borrow.Author.Rules.{rules}
 use mathlib.Core.Path.{sym, ap, ◌∙◌}
 use mathlib.Core.Bool.{Bool, ◌&&◌}
 use mir.Facts.{to_z-of_z}

@@ -1,5 +1,4 @@
 -- `states::request::number_of` meets its contract: in each arm the match told which stream it is. Assumes nothing.
-use borrow.Author.Rules.{rules}
 use mathlib.Core.Path.{◌≡◌, sym, ap, ◌∙◌}
 use Prim.Native.Nat.{◌-◌}
 use native.Mathlib.Omega.{arith}

@@ -1,5 +1,4 @@
 -- `states::state::in_transaction` meets its contract: by the tests passed. Assumes nothing.
-use borrow.Author.Rules.{rules}
 use mathlib.Core.Path.{sym, ◌∙◌}
 use Rattle.states.specs.declared.state.State.TheVariants.{TxReady, TxStreaming}
 use Rattle.states.specs.Requests.{in_state}

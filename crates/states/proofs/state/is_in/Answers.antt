@@ -1,5 +1,4 @@
 -- `states::state::is_in` meets its contract: the ranks are compared. Assumes nothing.
-use borrow.Author.Rules.{rules}
 use lib.Dec.{eqb}
 use Rattle.states.proofs.state.is_in.Goals as goal
 

@@ -1,5 +1,4 @@
 -- `states::state::is_stopped` meets its contract: by the tests passed. Assumes nothing.
-use borrow.Author.Rules.{rules}
 use mathlib.Core.Path.{sym, ◌∙◌}
 use Rattle.states.specs.declared.state.State.TheVariants.{Failed, Interrupted}
 use Rattle.states.specs.Requests.{in_state}

@@ -1,5 +1,4 @@
 -- `states::state::is_streaming` meets its contract: by the tests passed. Assumes nothing.
-use borrow.Author.Rules.{rules}
 use mathlib.Core.Path.{sym, ◌∙◌}
 use Rattle.states.specs.declared.state.State.TheVariants.{Streaming, TxStreaming}
 use Rattle.states.specs.Requests.{in_state}

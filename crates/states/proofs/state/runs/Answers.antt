@@ -1,5 +1,4 @@
 -- `states::state::runs` meets its contract: by the tests passed. Assumes nothing.
-use borrow.Author.Rules.{rules}
 use mathlib.Core.Path.{sym, ◌∙◌}
 use Rattle.states.specs.declared.state.State.TheVariants.{Ready}
 use Rattle.states.specs.Requests.{in_state, in_transaction}

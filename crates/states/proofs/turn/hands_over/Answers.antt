@@ -1,5 +1,4 @@
 -- `states::turn::hands_over` meets its contract: in each arm the match told which request it is. Assumes nothing.
-use borrow.Author.Rules.{rules}
 use mathlib.Core.Path.{refl, ap}
 use Rattle.states.specs.Requests.{kind_of}
 use Rattle.bolt.specs.Requests.{HELLO, GOODBYE, RESET, RUN, BEGIN, COMMIT, ROLLBACK, DISCARD, PULL}

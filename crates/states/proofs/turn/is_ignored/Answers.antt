@@ -1,5 +1,4 @@
 -- `states::turn::is_ignored` meets its contract: by the tests passed. Assumes nothing.
-use borrow.Author.Rules.{rules}
 use mathlib.Core.Path.{sym, ◌∙◌}
 use Rattle.states.specs.Requests.{kind_of}
 use Rattle.states.proofs.Turns.{ignores-by}

@@ -1,5 +1,4 @@
 -- `states::turn::is_work` meets its contract: in each arm the match told which request it is. Assumes nothing.
-use borrow.Author.Rules.{rules}
 use mathlib.Core.Path.{◌≡◌, refl, sym, ap}
 use mathlib.Core.Bool.{Bool}
 use Rattle.states.specs.declared.request.Request.{Request}

@@ -1,8 +1,6 @@
 -- `steps::arrive::accept` meets its contract: by the tests passed. Assumes nothing.
-use borrow.Author.Rules.{rules}
 use mathlib.Core.List.{List}
 use Prim.Native.Nat.{ℕ}
-use Rattle.record.specs.declared.record.Connection.{Connection}
 use Rattle.record.specs.Record.{joined}
 use Rattle.record.proofs.Keeping.{bounds}
 use Rattle.steps.proofs.Leaving.{accept-closes, accept-resets, accept-queues}

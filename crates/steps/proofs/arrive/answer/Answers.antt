@@ -1,5 +1,4 @@
 -- `steps::arrive::answer` meets its contract. Assumes nothing.
-use borrow.Author.Rules.{rules}
 use Rattle.steps.proofs.arrive.answer.Goals as goal
 
 pub returns : goal.returns

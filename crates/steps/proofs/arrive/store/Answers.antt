@@ -1,5 +1,4 @@
 -- `steps::arrive::store` meets its contract: each number is stored as it is. Assumes nothing.
-use borrow.Author.Rules.{rules}
 use mathlib.Core.Path.{ap, ◌∙◌}
 use lib.ListN.{set}
 use mir.Syntax.{w64}
@@ -9,7 +8,8 @@ use Rattle.steps.proofs.arrive.store.Goals as goal
 
 pub returns : goal.returns
 returns c =
-    let a = c.args in record {
+    let a = c.args in
+    record {
       kinds = ap (set a.kinds.now (place a.first a.waiting)) c.tag-kind.ensures;
       counts = ap (set a.counts.now (place a.first a.waiting)) (to_z-of_z {w = w64} (record { sfits = c.count_of-n.type_inv }) ∙ c.count_of-n.ensures);
       qids = ap (set a.qids.now (place a.first a.waiting)) (to_z-of_z {w = w64} (record { sfits = c.qid_of-qid.type_inv }) ∙ c.qid_of-qid.ensures);

@@ -1,5 +1,4 @@
 -- `steps::changes::counted` meets its contract: the state is set by its number. Assumes nothing.
-use borrow.Author.Rules.{rules}
 use Rattle.steps.proofs.changes.counted.Goals as goal
 
 pub returns : goal.returns

@@ -1,5 +1,4 @@
 -- `steps::close::answer` meets its contract. Assumes nothing.
-use borrow.Author.Rules.{rules}
 use Rattle.steps.proofs.close.answer.Goals as goal
 
 pub returns : goal.returns

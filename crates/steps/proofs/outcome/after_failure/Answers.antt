@@ -1,5 +1,4 @@
 -- `steps::outcome::after_failure` meets its contract: by the test passed. Assumes nothing.
-use borrow.Author.Rules.{rules}
 use mathlib.Core.Path.{sym, ◌∙◌}
 use borrow.Author.Tests.{eq-eqb, ne_eqb}
 use Rattle.states.specs.Requests.{kind_of}

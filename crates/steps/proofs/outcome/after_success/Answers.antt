@@ -1,5 +1,4 @@
 -- `steps::outcome::after_success` meets its contract: in each arm the match told which request it is. Assumes nothing.
-use borrow.Author.Rules.{rules}
 use mathlib.Core.Path.{refl, sym, ap, ◌∙◌}
 use mathlib.Core.Bool.{Bool, cond}
 use Rattle.states.specs.declared.state.State.TheVariants.{Ready, Streaming, TxReady, TxStreaming}
@@ -14,13 +13,19 @@ returns-then-is_in c =
     state-by a.state a.request _ a.left Streaming c.in-Run.is (λ h. sym (after-success a.state RUN h ∙ ap (λ (b : Bool). cond b Streaming TxStreaming) (sym c.is_in.ensures ∙ c.if-is_in.true))) c.requires
 
 pub returns-in-Hello : goal.returns-in-Hello
-returns-in-Hello c = let a = c.args in state-by a.state a.request _ a.left Ready c.in-Hello.is (λ h. sym (after-success a.state HELLO h)) c.requires
+returns-in-Hello c =
+    let a = c.args in
+    state-by a.state a.request _ a.left Ready c.in-Hello.is (λ h. sym (after-success a.state HELLO h)) c.requires
 
 pub returns-in-Goodbye : goal.returns-in-Goodbye
-returns-in-Goodbye c = let a = c.args in state-by a.state a.request _ a.left a.state c.in-Goodbye.is (λ h. sym (after-success a.state GOODBYE h)) c.requires
+returns-in-Goodbye c =
+    let a = c.args in
+    state-by a.state a.request _ a.left a.state c.in-Goodbye.is (λ h. sym (after-success a.state GOODBYE h)) c.requires
 
 pub returns-in-Reset : goal.returns-in-Reset
-returns-in-Reset c = let a = c.args in state-by a.state a.request _ a.left a.state c.in-Reset.is (λ h. sym (after-success a.state RESET h)) c.requires
+returns-in-Reset c =
+    let a = c.args in
+    state-by a.state a.request _ a.left a.state c.in-Reset.is (λ h. sym (after-success a.state RESET h)) c.requires
 
 pub returns-else-is_in : goal.returns-else-is_in
 returns-else-is_in c =
@@ -28,13 +33,19 @@ returns-else-is_in c =
     state-by a.state a.request _ a.left TxStreaming c.in-Run.is (λ h. sym (after-success a.state RUN h ∙ ap (λ (b : Bool). cond b Streaming TxStreaming) (sym c.is_in.ensures ∙ c.if-is_in.false))) c.requires
 
 pub returns-in-Begin : goal.returns-in-Begin
-returns-in-Begin c = let a = c.args in state-by a.state a.request _ a.left TxReady c.in-Begin.is (λ h. sym (after-success a.state BEGIN h)) c.requires
+returns-in-Begin c =
+    let a = c.args in
+    state-by a.state a.request _ a.left TxReady c.in-Begin.is (λ h. sym (after-success a.state BEGIN h)) c.requires
 
 pub returns-in-Commit : goal.returns-in-Commit
-returns-in-Commit c = let a = c.args in state-by a.state a.request _ a.left Ready c.in-Commit.is (λ h. sym (after-success a.state COMMIT h)) c.requires
+returns-in-Commit c =
+    let a = c.args in
+    state-by a.state a.request _ a.left Ready c.in-Commit.is (λ h. sym (after-success a.state COMMIT h)) c.requires
 
 pub returns-in-Rollback : goal.returns-in-Rollback
-returns-in-Rollback c = let a = c.args in state-by a.state a.request _ a.left Ready c.in-Rollback.is (λ h. sym (after-success a.state ROLLBACK h)) c.requires
+returns-in-Rollback c =
+    let a = c.args in
+    state-by a.state a.request _ a.left Ready c.in-Rollback.is (λ h. sym (after-success a.state ROLLBACK h)) c.requires
 
 pub returns-in-Discard : goal.returns-in-Discard
 returns-in-Discard c =

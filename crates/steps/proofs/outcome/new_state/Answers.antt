@@ -1,5 +1,4 @@
 -- `steps::outcome::new_state` meets its contract: in each arm the match told the outcome. Assumes nothing.
-use borrow.Author.Rules.{rules}
 use mathlib.Core.Path.{sym, ap, ◌∙◌}
 use Rattle.states.specs.declared.answers.Outcome.{Outcome}
 use Rattle.states.specs.Requests.{kind_of}
@@ -9,7 +8,9 @@ use Rattle.states.proofs.Rows.{after-failure, after_more}
 use Rattle.steps.proofs.outcome.new_state.Goals as goal
 
 pub returns-in-Success : goal.returns-in-Success
-returns-in-Success c = let a = c.args in c.after_success.ensures ∙ ap (λ (o : Outcome). new_state a.state (kind_of a.request) (response o a.request a.left)) (sym c.in-Success.is)
+returns-in-Success c =
+    let a = c.args in
+    c.after_success.ensures ∙ ap (λ (o : Outcome). new_state a.state (kind_of a.request) (response o a.request a.left)) (sym c.in-Success.is)
 
 pub returns-in-More : goal.returns-in-More
 returns-in-More c =

@@ -1,12 +1,13 @@
 -- `steps::outcome::success_summary` meets its contract: by the tests passed. Assumes nothing.
-use borrow.Author.Rules.{rules}
 use mathlib.Core.Path.{refl, sym, ◌∙◌}
 use borrow.Author.Tests.{eq-eqb, ne_eqb}
 use Rattle.steps.proofs.Outcomes.{summary-by}
 use Rattle.steps.proofs.outcome.success_summary.Goals as goal
 
 pub returns-then-fetches : goal.returns-then-fetches
-returns-then-fetches c = let a = c.args in summary-by a.state a.request (sym c.fetches.ensures ∙ c.if-fetches.true) refl refl a.next
+returns-then-fetches c =
+    let a = c.args in
+    summary-by a.state a.request (sym c.fetches.ensures ∙ c.if-fetches.true) refl refl a.next
 
 pub returns-then-in_transaction : goal.returns-then-in_transaction
 returns-then-in_transaction c =

@@ -1,5 +1,4 @@
 -- `steps::report::answer` meets its contract. Assumes nothing.
-use borrow.Author.Rules.{rules}
 use Rattle.steps.proofs.report.answer.Goals as goal
 
 pub returns : goal.returns

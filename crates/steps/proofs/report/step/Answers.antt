@@ -1,5 +1,4 @@
 -- `steps::report::step` meets its contract: by the tests passed. Assumes nothing.
-use borrow.Author.Rules.{rules}
 use mathlib.Core.Path.{◌≡◌, ap, ◌∙◌}
 use mathlib.Core.Bool.{Bool, true, false, cond}
 use Prim.Native.Nat.{◌<◌}
@@ -11,8 +10,8 @@ use Rattle.states.specs.declared.answers.Outcome.{Outcome}
 use Rattle.states.specs.Requests.{in_state}
 use Rattle.states.specs.Table.{Done, report_t, report_first}
 use Rattle.record.specs.declared.record.Connection.{Connection}
-use Rattle.record.specs.Record.{joined, state_in, is_in_flight, waiting_in, kept, keeps_rules}
-use Rattle.record.specs.Calls.{After, nowhere, carried, report_of}
+use Rattle.record.specs.Record.{joined, state_in, is_in_flight, kept, keeps_rules}
+use Rattle.record.specs.Calls.{nowhere, carried, report_of}
 use Rattle.record.proofs.Standing.{kept-bounded, next-most, room, flies}
 use Rattle.steps.specs.declared.after.AfterReport.{AfterReport}
 use Rattle.steps.specs.Steps.{told_report}
@@ -30,31 +29,52 @@ goes w o ruled alive p = ap (carried nowhere w) (report-by (kept w) o p) ∙ go_
 
 pub returns-then-not-keeps : goal.returns-then-not-keeps
 returns-then-not-keeps c =
-    ap ((λ (x : AfterReport). told_report x c.args.streams.now c.args.kinds.now c.args.counts.now c.args.qids.now)) c.answer.ensures ∙ broken nowhere ((joined c.args.control c.args.streams.now c.args.kinds.now c.args.counts.now c.args.qids.now)) (report_t (kept ((joined c.args.control c.args.streams.now c.args.kinds.now c.args.counts.now c.args.qids.now))) c.args.outcome) (breaks ((joined c.args.control c.args.streams.now c.args.kinds.now c.args.counts.now c.args.qids.now)) c.keeps_rules-keeps.ensures.told c.if-not-keeps.true-raw)
+    let a = c.args in
+    let w = joined a.control a.streams.now a.kinds.now a.counts.now a.qids.now in
+    ap (λ (x : AfterReport). told_report x a.streams.now a.kinds.now a.counts.now a.qids.now) c.answer.ensures ∙ broken nowhere w (report_t (kept w) a.outcome) (breaks w c.keeps_rules-keeps.ensures.told c.if-not-keeps.true)
 
 pub returns-then-is_in : goal.returns-then-is_in
-returns-then-is_in c = ap ((λ (x : AfterReport). told_report x c.args.streams.now c.args.kinds.now c.args.counts.now c.args.qids.now)) c.answer-then-is_in.ensures ∙ refuse-defunct nowhere ((joined c.args.control c.args.streams.now c.args.kinds.now c.args.counts.now c.args.qids.now)) ((λ (b : Bool). cond b (report_first c.args.outcome (kept ((joined c.args.control c.args.streams.now c.args.kinds.now c.args.counts.now c.args.qids.now))) (waiting_in c.args.control c.args.kinds.now c.args.counts.now c.args.qids.now)) (refused 19 0)) (is_in_flight c.args.control)) (keeps (joined c.args.control c.args.streams.now c.args.kinds.now c.args.counts.now c.args.qids.now) c.keeps_rules-keeps.ensures.told c.if-not-keeps.false-raw) (state-test c.args.control Defunct c.state_of-state.ensures c.is_in.ensures c.if-is_in.true)
+returns-then-is_in c =
+    let a = c.args in
+    let w = joined a.control a.streams.now a.kinds.now a.counts.now a.qids.now in
+    let k = keeps w c.keeps_rules-keeps.ensures.told c.if-not-keeps.false in
+    ap (λ (x : AfterReport). told_report x a.streams.now a.kinds.now a.counts.now a.qids.now) c.answer-then-is_in.ensures ∙ refuse-defunct nowhere w (outcome w a.outcome (is_in_flight a.control)) k (state-test a.control Defunct c.state_of-state.ensures c.is_in.ensures c.if-is_in.true)
 
 pub returns-then-control-eq0 : goal.returns-then-control-eq0
 returns-then-control-eq0 c =
     let a = c.args in
-    ap ((λ (x : AfterReport). told_report x c.args.streams.now c.args.kinds.now c.args.counts.now c.args.qids.now)) c.answer-then-control-eq0.ensures ∙ unasked a.control a.streams.now a.kinds.now a.counts.now a.qids.now a.outcome c.if-control-eq0.true
-    ∙ goes (joined c.args.control c.args.streams.now c.args.kinds.now c.args.counts.now c.args.qids.now) c.args.outcome (keeps (joined c.args.control c.args.streams.now c.args.kinds.now c.args.counts.now c.args.qids.now) c.keeps_rules-keeps.ensures.told c.if-not-keeps.false-raw) (state-test c.args.control Defunct c.state_of-state.ensures c.is_in.ensures c.if-is_in.false) (eq-eqb _ 1 c.if-control-eq1.true)
+    let w = joined a.control a.streams.now a.kinds.now a.counts.now a.qids.now in
+    let k = keeps w c.keeps_rules-keeps.ensures.told c.if-not-keeps.false in
+    let alive = state-test a.control Defunct c.state_of-state.ensures c.is_in.ensures c.if-is_in.false in
+    ap (λ (x : AfterReport). told_report x a.streams.now a.kinds.now a.counts.now a.qids.now) c.answer-then-control-eq0.ensures ∙ unasked a.control a.streams.now a.kinds.now a.counts.now a.qids.now a.outcome c.if-control-eq0.true
+    ∙ goes w a.outcome k alive (eq-eqb _ 1 c.if-control-eq1.true)
 
 pub report_first-requires : goal.report_first-requires
 report_first-requires c =
     let a = c.args in
-    let k = keeps (joined c.args.control c.args.streams.now c.args.kinds.now c.args.counts.now c.args.qids.now) c.keeps_rules-keeps.ensures.told c.if-not-keeps.false-raw in
+    let w = joined a.control a.streams.now a.kinds.now a.counts.now a.qids.now in
+    let alive = state-test a.control Defunct c.state_of-state.ensures c.is_in.ensures c.if-is_in.false in
+    let k = keeps w c.keeps_rules-keeps.ensures.told c.if-not-keeps.false in
     let some : 0 < a.control.waiting = omega (arith, c.if-control-eq0.false) in
     record {
-      waits = record { bounds = kept-bounded ((joined c.args.control c.args.streams.now c.args.kinds.now c.args.counts.now c.args.qids.now)) k; some = some; below = room a.control a.streams.now a.kinds.now a.counts.now a.qids.now k (state-test c.args.control Defunct c.state_of-state.ensures c.is_in.ensures c.if-is_in.false) some };
+      waits = record { bounds = kept-bounded w k; some = some; below = room a.control a.streams.now a.kinds.now a.counts.now a.qids.now k alive some };
       long = c.keeps_rules-keeps.ensures.sized;
-      next = next-most ((joined c.args.control c.args.streams.now c.args.kinds.now c.args.counts.now c.args.qids.now)) k;
+      next = next-most w k;
       flies = flies a.control a.streams.now a.kinds.now a.counts.now a.qids.now k (eq-eqb _ 1 c.if-control-eq1.true) some;
     }
 
 pub returns-then-control-eq1 : goal.returns-then-control-eq1
-returns-then-control-eq1 c = c.report_first.ensures ∙ goes (joined c.args.control c.args.streams.now c.args.kinds.now c.args.counts.now c.args.qids.now) c.args.outcome (keeps (joined c.args.control c.args.streams.now c.args.kinds.now c.args.counts.now c.args.qids.now) c.keeps_rules-keeps.ensures.told c.if-not-keeps.false-raw) (state-test c.args.control Defunct c.state_of-state.ensures c.is_in.ensures c.if-is_in.false) (eq-eqb _ 1 c.if-control-eq1.true)
+returns-then-control-eq1 c =
+    let a = c.args in
+    let w = joined a.control a.streams.now a.kinds.now a.counts.now a.qids.now in
+    let k = keeps w c.keeps_rules-keeps.ensures.told c.if-not-keeps.false in
+    let alive = state-test a.control Defunct c.state_of-state.ensures c.is_in.ensures c.if-is_in.false in
+    c.report_first.ensures ∙ goes w a.outcome k alive (eq-eqb _ 1 c.if-control-eq1.true)
 
 pub returns : goal.returns
-returns c = ap ((λ (x : AfterReport). told_report x c.args.streams.now c.args.kinds.now c.args.counts.now c.args.qids.now)) c.answer-2.ensures ∙ goes (joined c.args.control c.args.streams.now c.args.kinds.now c.args.counts.now c.args.qids.now) c.args.outcome (keeps (joined c.args.control c.args.streams.now c.args.kinds.now c.args.counts.now c.args.qids.now) c.keeps_rules-keeps.ensures.told c.if-not-keeps.false-raw) (state-test c.args.control Defunct c.state_of-state.ensures c.is_in.ensures c.if-is_in.false) (ne_eqb _ 1 c.if-control-eq1.false)
+returns c =
+    let a = c.args in
+    let w = joined a.control a.streams.now a.kinds.now a.counts.now a.qids.now in
+    let k = keeps w c.keeps_rules-keeps.ensures.told c.if-not-keeps.false in
+    let alive = state-test a.control Defunct c.state_of-state.ensures c.is_in.ensures c.if-is_in.false in
+    ap (λ (x : AfterReport). told_report x a.streams.now a.kinds.now a.counts.now a.qids.now) c.answer-2.ensures ∙ goes w a.outcome k alive (ne_eqb _ 1 c.if-control-eq1.false)

@@ -1,5 +1,4 @@
 -- `steps::report::streams_after` meets its contract: in each arm the match told the outcome. Assumes nothing.
-use borrow.Author.Rules.{rules}
 use mathlib.Core.Path.{refl, sym, subst}
 use Rattle.states.specs.declared.answers.Outcome.{Outcome}
 use Rattle.states.specs.Table.{streams_after}

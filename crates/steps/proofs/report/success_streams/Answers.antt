@@ -1,5 +1,4 @@
 -- `steps::report::success_streams` meets its contract: by the tests passed. Assumes nothing.
-use borrow.Author.Rules.{rules}
 use mathlib.Core.Path.{◌≡◌, refl, sym, ap, ◌∙◌, subst}
 use mathlib.Core.Bool.{Bool, true, false, ◌&&◌}
 use mathlib.Core.List.{List}
@@ -36,34 +35,48 @@ stay l n next long most e = subst (λ (m : Open). Laid m l l (record { count = n
 pub returns-then-fetches : goal.returns-then-fetches
 returns-then-fetches c =
     let a = c.args in
+    let o = open_of a.streams.now a.opened a.next in
     subst (λ (m : Open). Laid m a.streams.now c.remove-left.new.streams (record { count = c.remove-left.result; next = a.next }))
-    (streams-by a.state a.request (sym c.fetches.ensures ∙ c.if-fetches.true) refl refl ((open_of c.args.streams.now c.args.opened c.args.next)) refl)
+    (streams-by a.state a.request (sym c.fetches.ensures ∙ c.if-fetches.true) refl refl o refl)
     (laid-less a.streams.now a.opened a.next c.remove-left.new.streams (c.number_of-number.ensures ∙ ap (λ (x : Asked). named x a.next) c.asked_for-asked.ensures) (c.remove-left.ensures.left, c.remove-left.ensures.moved))
 
 pub push-requires : goal.push-requires
-push-requires c = (fewer c.args.streams.now c.args.opened c.args.next c.requires.1.0 c.requires.0 (roomy c.args.state (open_of c.args.streams.now c.args.opened c.args.next) c.args.request (eq-eqb _ _ (sym c.tag-tag.ensures ∙ c.if-tag-eq-RUN.true)) (sym c.in_transaction.ensures ∙ c.if-in_transaction.true) c.requires.1.1), c.requires.1.0)
+push-requires c =
+    let a = c.args in
+    let o = open_of a.streams.now a.opened a.next in
+    (fewer a.streams.now a.opened a.next c.requires.1.0 c.requires.0 (roomy a.state o a.request (eq-eqb _ _ (sym c.tag-tag.ensures ∙ c.if-tag-eq-RUN.true)) (sym c.in_transaction.ensures ∙ c.if-in_transaction.true) c.requires.1.1), c.requires.1.0)
 
 pub overflow_add-result-then-in_transaction : goal.overflow_add-result-then-in_transaction
-overflow_add-result-then-in_transaction c = record { fits = omega (arith, roomy c.args.state (open_of c.args.streams.now c.args.opened c.args.next) c.args.request (eq-eqb _ _ (sym c.tag-tag.ensures ∙ c.if-tag-eq-RUN.true)) (sym c.in_transaction.ensures ∙ c.if-in_transaction.true) c.requires.1.1) }
+overflow_add-result-then-in_transaction c =
+    let a = c.args in
+    let o = open_of a.streams.now a.opened a.next in
+    record { fits = omega (arith, roomy a.state o a.request (eq-eqb _ _ (sym c.tag-tag.ensures ∙ c.if-tag-eq-RUN.true)) (sym c.in_transaction.ensures ∙ c.if-in_transaction.true) c.requires.1.1) }
 
 pub returns-then-in_transaction : goal.returns-then-in_transaction
 returns-then-in_transaction c =
     let a = c.args in
+    let o = open_of a.streams.now a.opened a.next in
     subst (λ (m : Open). Laid m a.streams.now c.push.new.streams (record { count = a.opened + 1; next = a.next + 1 }))
-    (streams-by a.state a.request (sym c.fetches.ensures ∙ c.if-fetches.false) (eq-eqb _ _ (sym c.tag-tag.ensures ∙ c.if-tag-eq-RUN.true)) (sym c.in_transaction.ensures ∙ c.if-in_transaction.true) ((open_of c.args.streams.now c.args.opened c.args.next)) refl)
-    (laid_more a.streams.now a.opened c.requires.1.0 a.next c.push.new.streams (fewer c.args.streams.now c.args.opened c.args.next c.requires.1.0 c.requires.0 (roomy c.args.state (open_of c.args.streams.now c.args.opened c.args.next) c.args.request (eq-eqb _ _ (sym c.tag-tag.ensures ∙ c.if-tag-eq-RUN.true)) (sym c.in_transaction.ensures ∙ c.if-in_transaction.true) c.requires.1.1)) c.push.ensures)
+    (streams-by a.state a.request (sym c.fetches.ensures ∙ c.if-fetches.false) (eq-eqb _ _ (sym c.tag-tag.ensures ∙ c.if-tag-eq-RUN.true)) (sym c.in_transaction.ensures ∙ c.if-in_transaction.true) o refl)
+    (laid_more a.streams.now a.opened c.requires.1.0 a.next c.push.new.streams (fewer a.streams.now a.opened a.next c.requires.1.0 c.requires.0 (roomy a.state o a.request (eq-eqb _ _ (sym c.tag-tag.ensures ∙ c.if-tag-eq-RUN.true)) (sym c.in_transaction.ensures ∙ c.if-in_transaction.true) c.requires.1.1)) c.push.ensures)
 
 pub returns-then-tag-eq-RUN : goal.returns-then-tag-eq-RUN
 returns-then-tag-eq-RUN c =
+    let a = c.args in
+    let o = open_of a.streams.now a.opened a.next in
     let run = eq-eqb _ _ (sym c.tag-tag.ensures ∙ c.if-tag-eq-RUN.true) in
-    stay c.args.streams.now c.args.opened c.args.next c.requires.1.0 c.requires.0 (streams-by c.args.state c.args.request (sym c.fetches.ensures ∙ c.if-fetches.false) run (sym c.in_transaction.ensures ∙ c.if-in_transaction.false) ((open_of c.args.streams.now c.args.opened c.args.next)) (run-begins c.args.request run))
+    stay a.streams.now a.opened a.next c.requires.1.0 c.requires.0 (streams-by a.state a.request (sym c.fetches.ensures ∙ c.if-fetches.false) run (sym c.in_transaction.ensures ∙ c.if-in_transaction.false) o (run-begins a.request run))
 
 pub returns-then-tag-eq-BEGIN : goal.returns-then-tag-eq-BEGIN
 returns-then-tag-eq-BEGIN c =
     let a = c.args in
+    let o = open_of a.streams.now a.opened a.next in
     subst (λ (m : Open). Laid m a.streams.now a.streams.now (record { count = 0; next = 0 }))
-    (streams-by a.state a.request (sym c.fetches.ensures ∙ c.if-fetches.false) (ne_eqb _ _ (λ e. c.if-tag-eq-RUN.false (c.tag-tag.ensures ∙ e))) refl ((open_of c.args.streams.now c.args.opened c.args.next)) (eq-eqb _ _ (sym c.tag-tag.ensures ∙ c.if-tag-eq-BEGIN.true)))
+    (streams-by a.state a.request (sym c.fetches.ensures ∙ c.if-fetches.false) (ne_eqb _ _ (λ e. c.if-tag-eq-RUN.false (c.tag-tag.ensures ∙ e))) refl o (eq-eqb _ _ (sym c.tag-tag.ensures ∙ c.if-tag-eq-BEGIN.true)))
     (record { count = refl; next = refl; numbers = refl })
 
 pub returns : goal.returns
-returns c = stay c.args.streams.now c.args.opened c.args.next c.requires.1.0 c.requires.0 (streams-by c.args.state c.args.request (sym c.fetches.ensures ∙ c.if-fetches.false) (ne_eqb _ _ (λ e. c.if-tag-eq-RUN.false (c.tag-tag.ensures ∙ e))) refl ((open_of c.args.streams.now c.args.opened c.args.next)) (ne_eqb _ _ (λ e. c.if-tag-eq-BEGIN.false (c.tag-tag.ensures ∙ e))))
+returns c =
+    let a = c.args in
+    let o = open_of a.streams.now a.opened a.next in
+    stay a.streams.now a.opened a.next c.requires.1.0 c.requires.0 (streams-by a.state a.request (sym c.fetches.ensures ∙ c.if-fetches.false) (ne_eqb _ _ (λ e. c.if-tag-eq-RUN.false (c.tag-tag.ensures ∙ e))) refl o (ne_eqb _ _ (λ e. c.if-tag-eq-BEGIN.false (c.tag-tag.ensures ∙ e))))

@@ -1,5 +1,4 @@
 -- `steps::streams::push` meets its contract: the number is stored behind the others. Assumes nothing.
-use borrow.Author.Rules.{rules}
 use Rattle.steps.proofs.Removing.{pushed}
 use Rattle.steps.proofs.streams.push.Goals as goal
 

@@ -1,5 +1,4 @@
 -- `steps::take::answer` meets its contract. Assumes nothing.
-use borrow.Author.Rules.{rules}
 use Rattle.steps.proofs.take.answer.Goals as goal
 
 pub returns : goal.returns

@@ -1,15 +1,11 @@
 -- `steps::take::step` meets its contract: by the tests passed. Assumes nothing.
-use borrow.Author.Rules.{rules}
-use mathlib.Core.Path.{◌≡◌, ap, ◌∙◌}
-use mathlib.Core.Bool.{true, false}
+use mathlib.Core.Path.{ap, ◌∙◌}
 use Prim.Native.Nat.{◌<◌}
 use native.Mathlib.Omega.{arith}
 use Rattle.states.specs.declared.state.State.TheVariants.{Defunct}
-use Rattle.states.specs.Requests.{in_state}
 use Rattle.states.specs.Table.{take_t}
-use Rattle.record.specs.declared.record.Connection.{Connection}
-use Rattle.record.specs.Record.{joined, state_in, kept, keeps_rules}
-use Rattle.record.specs.Calls.{After, nowhere}
+use Rattle.record.specs.Record.{joined, kept}
+use Rattle.record.specs.Calls.{nowhere}
 use Rattle.record.proofs.Standing.{kept-bounded, room}
 use Rattle.steps.specs.declared.after.AfterTake.{AfterTake}
 use Rattle.steps.specs.Steps.{told_take}
@@ -18,24 +14,48 @@ use Rattle.steps.proofs.Leaving.{stays-in-flight, stays-empty, comes-to-turn}
 use Rattle.steps.proofs.take.step.Goals as goal
 
 pub returns-then-not-keeps : goal.returns-then-not-keeps
-returns-then-not-keeps c = ap ((λ (r : AfterTake). told_take r c.args.streams.now c.args.kinds.now c.args.counts.now c.args.qids.now)) c.answer.ensures ∙ broken nowhere ((joined c.args.control c.args.streams.now c.args.kinds.now c.args.counts.now c.args.qids.now)) (take_t (kept ((joined c.args.control c.args.streams.now c.args.kinds.now c.args.counts.now c.args.qids.now)))) (breaks ((joined c.args.control c.args.streams.now c.args.kinds.now c.args.counts.now c.args.qids.now)) c.keeps_rules-keeps.ensures.told c.if-not-keeps.true-raw)
+returns-then-not-keeps c =
+    let a = c.args in
+    let w = joined a.control a.streams.now a.kinds.now a.counts.now a.qids.now in
+    ap (λ (r : AfterTake). told_take r a.streams.now a.kinds.now a.counts.now a.qids.now) c.answer.ensures ∙ broken nowhere w (take_t (kept w)) (breaks w c.keeps_rules-keeps.ensures.told c.if-not-keeps.true)
 
 pub returns-then-is_in : goal.returns-then-is_in
 returns-then-is_in c =
-    ap ((λ (r : AfterTake). told_take r c.args.streams.now c.args.kinds.now c.args.counts.now c.args.qids.now)) c.answer-then-is_in.ensures
-    ∙ refuse-defunct nowhere ((joined c.args.control c.args.streams.now c.args.kinds.now c.args.counts.now c.args.qids.now)) _ ((keeps ((joined c.args.control c.args.streams.now c.args.kinds.now c.args.counts.now c.args.qids.now)) c.keeps_rules-keeps.ensures.told c.if-not-keeps.false-raw)) (state-test c.args.control Defunct c.state_of-state.ensures c.is_in.ensures c.if-is_in.true)
+    let a = c.args in
+    let w = joined a.control a.streams.now a.kinds.now a.counts.now a.qids.now in
+    let k = keeps w c.keeps_rules-keeps.ensures.told c.if-not-keeps.false in
+    ap (λ (r : AfterTake). told_take r a.streams.now a.kinds.now a.counts.now a.qids.now) c.answer-then-is_in.ensures
+    ∙ refuse-defunct nowhere w _ k (state-test a.control Defunct c.state_of-state.ensures c.is_in.ensures c.if-is_in.true)
 
 pub returns-then-control-eq1 : goal.returns-then-control-eq1
-returns-then-control-eq1 c = ap ((λ (r : AfterTake). told_take r c.args.streams.now c.args.kinds.now c.args.counts.now c.args.qids.now)) c.answer-then-control-eq1.ensures ∙ stays-in-flight ((joined c.args.control c.args.streams.now c.args.kinds.now c.args.counts.now c.args.qids.now)) ((keeps ((joined c.args.control c.args.streams.now c.args.kinds.now c.args.counts.now c.args.qids.now)) c.keeps_rules-keeps.ensures.told c.if-not-keeps.false-raw)) c.keeps_rules-keeps.ensures.sized ((state-test c.args.control Defunct c.state_of-state.ensures c.is_in.ensures c.if-is_in.false)) c.if-control-eq1.true
+returns-then-control-eq1 c =
+    let a = c.args in
+    let w = joined a.control a.streams.now a.kinds.now a.counts.now a.qids.now in
+    let k = keeps w c.keeps_rules-keeps.ensures.told c.if-not-keeps.false in
+    let alive = state-test a.control Defunct c.state_of-state.ensures c.is_in.ensures c.if-is_in.false in
+    ap (λ (r : AfterTake). told_take r a.streams.now a.kinds.now a.counts.now a.qids.now) c.answer-then-control-eq1.ensures ∙ stays-in-flight w k c.keeps_rules-keeps.ensures.sized alive c.if-control-eq1.true
 
 pub returns-then-control-eq0 : goal.returns-then-control-eq0
-returns-then-control-eq0 c = ap ((λ (r : AfterTake). told_take r c.args.streams.now c.args.kinds.now c.args.counts.now c.args.qids.now)) c.answer-then-control-eq0.ensures ∙ stays-empty ((joined c.args.control c.args.streams.now c.args.kinds.now c.args.counts.now c.args.qids.now)) ((keeps ((joined c.args.control c.args.streams.now c.args.kinds.now c.args.counts.now c.args.qids.now)) c.keeps_rules-keeps.ensures.told c.if-not-keeps.false-raw)) c.keeps_rules-keeps.ensures.sized ((state-test c.args.control Defunct c.state_of-state.ensures c.is_in.ensures c.if-is_in.false)) c.if-control-eq1.false c.if-control-eq0.true
+returns-then-control-eq0 c =
+    let a = c.args in
+    let w = joined a.control a.streams.now a.kinds.now a.counts.now a.qids.now in
+    let k = keeps w c.keeps_rules-keeps.ensures.told c.if-not-keeps.false in
+    let alive = state-test a.control Defunct c.state_of-state.ensures c.is_in.ensures c.if-is_in.false in
+    ap (λ (r : AfterTake). told_take r a.streams.now a.kinds.now a.counts.now a.qids.now) c.answer-then-control-eq0.ensures ∙ stays-empty w k c.keeps_rules-keeps.ensures.sized alive c.if-control-eq1.false c.if-control-eq0.true
 
 pub take_first-requires : goal.take_first-requires
 take_first-requires c =
     let a = c.args in
+    let w = joined a.control a.streams.now a.kinds.now a.counts.now a.qids.now in
+    let k = keeps w c.keeps_rules-keeps.ensures.told c.if-not-keeps.false in
+    let alive = state-test a.control Defunct c.state_of-state.ensures c.is_in.ensures c.if-is_in.false in
     let some : 0 < a.control.waiting = omega (arith, c.if-control-eq0.false) in
-    (record { bounds = kept-bounded ((joined c.args.control c.args.streams.now c.args.kinds.now c.args.counts.now c.args.qids.now)) ((keeps ((joined c.args.control c.args.streams.now c.args.kinds.now c.args.counts.now c.args.qids.now)) c.keeps_rules-keeps.ensures.told c.if-not-keeps.false-raw)); some = some; below = room a.control a.streams.now a.kinds.now a.counts.now a.qids.now ((keeps ((joined c.args.control c.args.streams.now c.args.kinds.now c.args.counts.now c.args.qids.now)) c.keeps_rules-keeps.ensures.told c.if-not-keeps.false-raw)) ((state-test c.args.control Defunct c.state_of-state.ensures c.is_in.ensures c.if-is_in.false)) some }, c.keeps_rules-keeps.ensures.sized)
+    (record { bounds = kept-bounded w k; some = some; below = room a.control a.streams.now a.kinds.now a.counts.now a.qids.now k alive some }, c.keeps_rules-keeps.ensures.sized)
 
 pub returns : goal.returns
-returns c = comes-to-turn ((joined c.args.control c.args.streams.now c.args.kinds.now c.args.counts.now c.args.qids.now)) ((keeps ((joined c.args.control c.args.streams.now c.args.kinds.now c.args.counts.now c.args.qids.now)) c.keeps_rules-keeps.ensures.told c.if-not-keeps.false-raw)) c.keeps_rules-keeps.ensures.sized ((state-test c.args.control Defunct c.state_of-state.ensures c.is_in.ensures c.if-is_in.false)) c.if-control-eq1.false c.take_first.ensures
+returns c =
+    let a = c.args in
+    let w = joined a.control a.streams.now a.kinds.now a.counts.now a.qids.now in
+    let k = keeps w c.keeps_rules-keeps.ensures.told c.if-not-keeps.false in
+    let alive = state-test a.control Defunct c.state_of-state.ensures c.is_in.ensures c.if-is_in.false in
+    comes-to-turn w k c.keeps_rules-keeps.ensures.sized alive c.if-control-eq1.false c.take_first.ensures

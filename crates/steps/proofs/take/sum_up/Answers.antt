@@ -1,5 +1,4 @@
 -- `steps::take::sum_up` meets its contract: the answer is made beside the control. Assumes nothing.
-use borrow.Author.Rules.{rules}
 use Rattle.steps.proofs.take.sum_up.Goals as goal
 
 pub returns : goal.returns
