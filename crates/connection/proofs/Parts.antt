@@ -1,8 +1,7 @@
 -- The record and its parts, as `Lending` takes them, and what the four calls on it ensure. Assumes nothing.
-use mathlib.Core.Path.{◌≡◌, refl, sym, subst}
-use mathlib.Core.List.{[], ◌∷◌, map-id}
+use mathlib.Core.Path.{◌≡◌, refl}
+use mathlib.Core.List.{[], ◌∷◌}
 use mir.Syntax.{Mutability}
-use mir.Val.{vstruct, vcons, vnil}
 use denote.Struct.Field.{u8-field, u64-field, i64-field}
 use denote.Struct.Laws.{owed, owes, u8-laws, u8-plain, u8-copy, u64-laws, u64-plain, u64-copy, i64-laws, i64-plain, i64-copy}
 use Rattle.states.specs.Answers.{told_arrival, told_taken, told_reported, told_closing}
@@ -24,7 +23,7 @@ use Rattle.record.specs.contracts.record.Connection as T
 use Rattle.record.proofs.record.Connection.TheLaws as T'
 use Rattle.record.specs.contracts.record.Control as K
 use Rattle.record.proofs.record.Control.TheLaws as K'
-use Rattle.in_place.proofs.InPlace.{Plain, Fits, of_field, of_array, Two, Ensures}
+use Rattle.in_place.proofs.InPlace.{Plain, of_field, of_array, Two, Ensures}
 use Rattle.in_place.proofs.Lending.{Five, Lends}
 
 abbrev pub connection : Plain
@@ -43,7 +42,6 @@ kinds = of_array u8-field u8-laws u8-plain u8-copy 32
 abbrev pub numbers : Plain
 numbers = of_array i64-field i64-laws i64-plain i64-copy 32
 
--- an array stands in the record as `map` of the identity over its list
 abbrev pub parts : Five connection control streams kinds numbers numbers
 parts = record {
   name = (T.struct).name;
@@ -55,11 +53,9 @@ parts = record {
   joined = joined;
   whole = λ h. refl;
   laid = refl;
-  spells = λ k a b c d i. vstruct (vcons (control.val k) (vcons (streams.val (map-id a i)) (vcons (kinds.val (map-id b i)) (vcons (numbers.val (map-id c i)) (vcons (numbers.val (map-id d i)) vnil)))));
-  are = λ h vs is. let o = owed T.the_type T'.the_laws h vs is in
-      (o.0, (subst (Fits streams) (map-id h.streams) o.1.0, (subst (Fits kinds) (map-id h.kinds) o.1.1.0, (subst (Fits numbers) (map-id h.counts) o.1.1.1.0, subst (Fits numbers) (map-id h.qids) o.1.1.1.1.0))));
-  owes = λ k a b c d f. owes T.the_type T'.the_laws (joined k a b c d)
-      (f.0, (subst (Fits streams) (sym (map-id a)) f.1.0, (subst (Fits kinds) (sym (map-id b)) f.1.1.0, (subst (Fits numbers) (sym (map-id c)) f.1.1.1.0, (subst (Fits numbers) (sym (map-id d)) f.1.1.1.1, tt)))));
+  spells = λ k a b c d. refl;
+  are = λ h vs is. let o = owed T.the_type T'.the_laws h vs is in (o.0, (o.1.0, (o.1.1.0, (o.1.1.1.0, o.1.1.1.1.0))));
+  owes = λ k a b c d f. owes T.the_type T'.the_laws (joined k a b c d) (f.0, (f.1.0, (f.1.1.0, (f.1.1.1.0, (f.1.1.1.1, tt)))));
 }
 
 -- a call whose step returns U, a control and the answer R: how the streams are lent to it, and how the queue's three arrays

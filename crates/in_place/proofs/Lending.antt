@@ -34,7 +34,7 @@ use denote.RattleType.{owns}
 use denote.Laws.{Is, shows}
 use denote.Memory.{cell_at, pointee}
 use denote.Exit.{yes}
-use denote.Ref.{MutBor, MutRef, mut_vals}
+use denote.Ref.{MutRef}
 use denote.Signature.{plain, types_at}
 use denote.Steps.{only, opens, closes, owned, peeks, heard, nothing}
 use denote.Struct.Steps.{spelt}

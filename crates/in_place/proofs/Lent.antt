@@ -23,7 +23,7 @@ use types.SemTy.{Body}
 use types.Tokens.{lft_new, lft_end, lent_back}
 use denote.RattleType.{RattleType}
 use denote.Laws.{Is, shows}
-use denote.Memory.{mem, part_at, shared_of, lone, pointee}
+use denote.Memory.{mem, part_at, lone, pointee}
 use denote.Exit.{Kept as Ending, yes, Exit, Last, left, Seen, see}
 use denote.Ref.{Bor, MutBor, MutRef, ShrRef, shr_coded, mut_coded}
 use denote.Lend.{lends_ref, ref_back, lends_free}

@@ -1,7 +1,6 @@
 -- `meulhaton::request::meulhaton_read_request` meets its contract. Assumes nothing.
 use mathlib.Core.Path.{sym, ap, ◌∙◌}
 use Prim.Native.Nat.{ℕ}
-use borrow.Author.Rules.{rules}
 use Rattle.meulhaton_fields.specs.Requests.{request_answer}
 use Rattle.requests.specs.Requests.{request_of}
 use Rattle.requests.specs.declared.request.Request.{Request}

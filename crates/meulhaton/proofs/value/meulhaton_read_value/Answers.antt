@@ -1,6 +1,5 @@
 -- `meulhaton::value::meulhaton_read_value` meets its contract. Assumes nothing.
 use mathlib.Core.Path.{ap, ◌∙◌}
-use borrow.Author.Rules.{rules}
 use Rattle.meulhaton_fields.specs.Values.{value_answer}
 use Rattle.meulhaton.proofs.value.meulhaton_read_value.Goals as goal
 

@@ -1,7 +1,6 @@
 -- `meulhaton::value::packed` meets its contract. Assumes nothing.
 use mathlib.Core.Path.{sym, ap, ◌∙◌}
 use Prim.Native.Nat.{ℕ}
-use borrow.Author.Rules.{rules}
 use Rattle.refusal.specs.Answer.{refused}
 use Rattle.packing.specs.Packing.{told}
 use Rattle.packing.specs.declared.Packed.{Packed}

@@ -3,7 +3,6 @@ use mathlib.Core.Path.{sym, ap, ◌∙◌}
 use Prim.Native.Nat.{ℕ}
 use mathlib.Core.List.{List}
 use lib.ListN.{get_or}
-use borrow.Author.Rules.{rules}
 use Rattle.refusal.specs.Answer.{returned, refused}
 use Rattle.meulhaton.specs.Wire.{agreement_of}
 use Rattle.handshake.specs.Negotiation.{told}

@@ -1,6 +1,5 @@
 -- `meulhaton::wire::frame_answer` meets its contract. Assumes nothing.
 use mathlib.Core.Path.{sym, ap, ◌∙◌}
-use borrow.Author.Rules.{rules}
 use Rattle.meulhaton.specs.Wire.{frame_answer}
 use Rattle.framing.specs.Reading.{told}
 use Rattle.framing.specs.declared.reader.Frame.{Frame}

@@ -1,7 +1,6 @@
 -- `meulhaton::wire::frame_refused` meets its contract. Assumes nothing.
 use mathlib.Core.Path.{ap}
 use Prim.Native.Nat.{ℕ}
-use borrow.Author.Rules.{rules}
 use Rattle.meulhaton.specs.Wire.{frame_answer}
 use Rattle.refusal.specs.Answer.{refused}
 use Rattle.meulhaton.proofs.wire.frame_refused.Goals as goal

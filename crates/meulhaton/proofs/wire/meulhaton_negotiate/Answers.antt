@@ -1,6 +1,5 @@
 -- `meulhaton::wire::meulhaton_negotiate` meets its contract. Assumes nothing.
 use mathlib.Core.Path.{ap, ◌∙◌}
-use borrow.Author.Rules.{rules}
 use Rattle.meulhaton.specs.Wire.{agreement_of}
 use Rattle.meulhaton.proofs.wire.meulhaton_negotiate.Goals as goal
 

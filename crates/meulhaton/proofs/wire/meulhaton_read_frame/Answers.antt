@@ -2,7 +2,6 @@
 use mathlib.Core.Path.{sym, ap, ◌∙◌}
 use Prim.Native.Nat.{ℕ}
 use lib.ListN.{length}
-use borrow.Author.Rules.{rules}
 use Rattle.refusal.specs.Answer.{Answer, left}
 use Rattle.handshake.specs.Version.{keeps_alive}
 use Rattle.framing.specs.Feed.{Reading}
@@ -18,7 +17,7 @@ returns-in-Known c =
     let e = c.read_frame-found.ensures in
     let f : ℕ → Answer Reading = λ v. frame_of (keeps_alive v) (length a.buffer.now) a.input.now in
     let k = sym (known a.minor f p.result p.ensures _ c.in-Known.is) in
-    record { answer = c.frame_answer.ensures ∙ ap frame_answer (e.0 ∙ ap telling k); filled = e.1 ∙ ap (λ (r : Answer Reading). left leaves r a.buffer.now) k }
+    record { answer = c.frame_answer.ensures ∙ ap frame_answer (e.answer ∙ ap telling k); filled = e.filled ∙ ap (λ (r : Answer Reading). left leaves r a.buffer.now) k }
 
 pub returns-in-Unknown : goal.returns-in-Unknown
 returns-in-Unknown c =

@@ -1,7 +1,6 @@
 -- `meulhaton::wire::written` meets its contract. Assumes nothing.
 use mathlib.Core.Path.{sym, ap, ◌∙◌}
 use Prim.Native.Nat.{ℕ}
-use borrow.Author.Rules.{rules}
 use Rattle.refusal.specs.Answer.{refused}
 use Rattle.framing.specs.Chunking.{told}
 use Rattle.framing.specs.declared.writer.Written.{Written}

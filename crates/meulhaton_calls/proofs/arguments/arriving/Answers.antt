@@ -1,5 +1,4 @@
 -- `meulhaton_calls::arguments::arriving` meets its contract. Assumes nothing.
-use borrow.Author.Rules.{rules}
 use mathlib.Core.Path.{sym, ◌∙◌}
 use lib.IntN.{pos}
 use Rattle.states.specs.declared.request.Request.TheVariants.{Pull}

@@ -1,5 +1,4 @@
 -- `meulhaton_calls::replies::answering` meets its contract. Assumes nothing.
-use borrow.Author.Rules.{rules}
 use Rattle.meulhaton_calls.proofs.replies.answering.Goals as goal
 
 pub returns : goal.returns

@@ -1,5 +1,4 @@
 -- `meulhaton_calls::replies::arrived` meets its contract. Assumes nothing.
-use borrow.Author.Rules.{rules}
 use mathlib.Core.Path.{sym, ap, ◌∙◌}
 use Rattle.states.specs.declared.answers.Arrival.{Arrival}
 use Rattle.states.specs.Answers.{told_arrival}

@@ -1,6 +1,5 @@
 -- `meulhaton_calls::replies::failure_image` meets its contract. Assumes nothing.
 use mathlib.Core.Path.{sym, ap, ◌∙◌}
-use borrow.Author.Rules.{rules}
 use Rattle.meulhaton_calls.specs.Replies.{summary_image}
 use Rattle.states.specs.declared.answers.Failure.{Failure}
 use Rattle.states.specs.declared.answers.Summary.TheVariants as S

@@ -1,5 +1,4 @@
 -- `meulhaton_calls::replies::handing` meets its contract. Assumes nothing.
-use borrow.Author.Rules.{rules}
 use Rattle.meulhaton_calls.proofs.replies.handing.Goals as goal
 
 pub returns : goal.returns

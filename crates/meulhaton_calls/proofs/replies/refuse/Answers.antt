@@ -1,5 +1,4 @@
 -- `meulhaton_calls::replies::refuse` meets its contract. Assumes nothing.
-use borrow.Author.Rules.{rules}
 use mathlib.Core.Path.{ap, ◌∙◌}
 use Prim.Native.Nat.{ℕ}
 use Rattle.meulhaton_calls.specs.Replies.{saying}

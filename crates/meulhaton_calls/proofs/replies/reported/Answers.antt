@@ -1,5 +1,4 @@
 -- `meulhaton_calls::replies::reported` meets its contract. Assumes nothing.
-use borrow.Author.Rules.{rules}
 use mathlib.Core.Path.{sym, ap, ◌∙◌}
 use Rattle.states.specs.declared.answers.Reported.{Reported}
 use Rattle.states.specs.Answers.{told_reported}

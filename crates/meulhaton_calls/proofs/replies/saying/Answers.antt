@@ -1,5 +1,4 @@
 -- `meulhaton_calls::replies::saying` meets its contract. Assumes nothing.
-use borrow.Author.Rules.{rules}
 use Rattle.meulhaton_calls.proofs.replies.saying.Goals as goal
 
 pub returns : goal.returns

@@ -1,6 +1,5 @@
 -- `meulhaton_calls::replies::summary_image` meets its contract. Assumes nothing.
 use mathlib.Core.Path.{sym, ap, ◌∙◌}
-use borrow.Author.Rules.{rules}
 use Rattle.meulhaton_calls.specs.Replies.{summary_image, summary_numbers}
 use Rattle.meulhaton_fields.proofs.Bits.{as_number}
 use Rattle.meulhaton_calls.proofs.replies.summary_image.Goals as goal

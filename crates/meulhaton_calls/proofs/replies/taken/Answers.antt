@@ -1,5 +1,4 @@
 -- `meulhaton_calls::replies::taken` meets its contract. Assumes nothing.
-use borrow.Author.Rules.{rules}
 use mathlib.Core.Path.{sym, ap, ◌∙◌}
 use Rattle.states.specs.declared.answers.Taken.{Taken}
 use Rattle.states.specs.Answers.{told_taken}

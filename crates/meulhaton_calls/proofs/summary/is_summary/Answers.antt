@@ -2,7 +2,6 @@
 use mathlib.Core.Path.{sym, ap, ◌∙◌}
 use borrow.Author.Tests.{eq-eqb, ne_eqb}
 use lib.Dec.{eqb}
-use borrow.Author.Rules.{rules}
 use Rattle.meulhaton_calls.specs.Summaries.{summary_of}
 use Rattle.meulhaton_calls.specs.Replies.{summary_image}
 use Rattle.meulhaton_calls.specs.declared.replies.SummaryImage.{SummaryImage}

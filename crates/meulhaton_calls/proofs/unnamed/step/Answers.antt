@@ -1,5 +1,4 @@
 -- `meulhaton_calls::unnamed::step` meets its contract. Assumes nothing.
-use borrow.Author.Rules.{rules}
 use Rattle.meulhaton_calls.proofs.Replying.{replied}
 use Rattle.meulhaton_calls.proofs.unnamed.step.Goals as goal
 

@@ -1,5 +1,4 @@
 -- `meulhaton_fields::fields::begin_fields` meets its contract. Assumes nothing.
-use borrow.Author.Rules.{rules}
 use Rattle.meulhaton_fields.proofs.fields.begin_fields.Goals as goal
 
 pub returns : goal.returns

@@ -1,6 +1,5 @@
 -- `meulhaton_fields::fields::fields_of` meets its contract. Assumes nothing.
 use mathlib.Core.Path.{sym, ap, ◌∙◌}
-use borrow.Author.Rules.{rules}
 use Rattle.meulhaton_fields.specs.Requests.{fields_of}
 use Rattle.meulhaton_fields.proofs.fields.fields_of.Goals as goal
 

@@ -1,5 +1,4 @@
 -- `meulhaton_fields::fields::hello_fields` meets its contract. Assumes nothing.
-use borrow.Author.Rules.{rules}
 use Rattle.meulhaton_fields.proofs.fields.hello_fields.Goals as goal
 
 pub returns : goal.returns

@@ -1,5 +1,4 @@
 -- `meulhaton_fields::fields::no_transaction` meets its contract. Assumes nothing.
-use borrow.Author.Rules.{rules}
 use Rattle.meulhaton_fields.proofs.fields.no_transaction.Goals as goal
 
 pub returns : goal.returns

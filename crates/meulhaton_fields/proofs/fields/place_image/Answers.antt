@@ -1,7 +1,6 @@
 -- `meulhaton_fields::fields::place_image` meets its contract. Assumes nothing.
 use mathlib.Core.Path.{sym, ap, ◌∙◌}
-use borrow.Author.Rules.{rules}
-use Rattle.meulhaton_fields.specs.Requests.{place_image, placed}
+use Rattle.meulhaton_fields.specs.Requests.{place_image}
 use Rattle.meulhaton_fields.proofs.fields.place_image.Goals as goal
 
 pub returns-in-Absent : goal.returns-in-Absent

@@ -1,6 +1,5 @@
 -- `meulhaton_fields::fields::text_image` meets its contract. Assumes nothing.
 use mathlib.Core.Path.{sym, ap, ◌∙◌}
-use borrow.Author.Rules.{rules}
 use Rattle.meulhaton_fields.specs.Requests.{text_image}
 use Rattle.meulhaton_fields.proofs.fields.text_image.Goals as goal
 

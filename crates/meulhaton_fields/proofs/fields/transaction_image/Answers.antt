@@ -1,5 +1,4 @@
 -- `meulhaton_fields::fields::transaction_image` meets its contract. Assumes nothing.
-use borrow.Author.Rules.{rules}
 use Rattle.meulhaton_fields.proofs.fields.transaction_image.Goals as goal
 
 pub returns : goal.returns

@@ -1,5 +1,4 @@
 -- `meulhaton_fields::request::refuse` meets its contract. Assumes nothing.
-use borrow.Author.Rules.{rules}
 use Rattle.meulhaton_fields.proofs.request.refuse.Goals as goal
 
 pub returns : goal.returns

@@ -1,6 +1,5 @@
 -- `meulhaton_fields::request::request_answer` meets its contract. Assumes nothing.
 use mathlib.Core.Path.{sym, ap, ◌∙◌}
-use borrow.Author.Rules.{rules}
 use Rattle.meulhaton_fields.specs.Requests.{request_image, request_answer}
 use Rattle.requests.specs.Requests.{told}
 use Rattle.requests.specs.declared.request.Reading.{Reading}

@@ -1,8 +1,7 @@
 -- `meulhaton_fields::value::value_answer` meets its contract. Assumes nothing.
 use mathlib.Core.Path.{sym, ap, ◌∙◌}
-use borrow.Author.Rules.{rules}
 use Rattle.values.specs.Reading.{told}
-use Rattle.meulhaton_fields.specs.Values.{plain, value_answer}
+use Rattle.meulhaton_fields.specs.Values.{value_answer}
 use Rattle.values.specs.declared.read.Reading.{Reading}
 use Rattle.meulhaton_fields.proofs.value.value_answer.Goals as goal
 
