@@ -23,6 +23,9 @@ pub struct Reply {
     pub end: usize,
 }
 
+// The refusal that is told by four zeros first: no version is in common.
+const NONE_IN_COMMON: u8 = 3;
+
 fn replied(phase: Phase, control: Control, ending: Ending, end: usize) -> Reply
     ensures { result ≡ record { phase = phase; control = control; ending = ending; end = end } }
 {
@@ -45,7 +48,7 @@ fn greet(control: Control, line: &[u8], out: &mut [u8]) -> Reply
             replied(Phase::Open(version), control, Ending::Idle, end)
         }
         Negotiation::Refused(why) => {
-            if why.number() == 3 {
+            if why.number() == NONE_IN_COMMON {
                 let zeros = [0u8; 4];
                 let end = write::put_line(&zeros, out, 0);
                 return replied(Phase::Awaiting, control, Ending::Refused(why), end);

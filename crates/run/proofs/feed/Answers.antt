@@ -3,11 +3,9 @@ use mathlib.Core.Path.{◌≡◌, refl}
 use Prim.Native.Nat.{◌-◌}
 use native.Mathlib.Omega.{arith}
 use borrow.Author.Rules.{rules}
-use lib.ListN.{length, take}
-use Rattle.lines.specs.Lines.{first_lines}
-use Rattle.lines.specs.Blocks.{cut}
+use lib.ListN.{length}
 use Rattle.run.specs.Run.{progress_of, portion}
-use Rattle.run.proofs.Feeding.{gives_all, lines_none, Feeding, feeding-none, feeding-room, feeding-taken, feeding-written, feeding-on, feeding-done, feeding-out}
+use Rattle.run.proofs.Feeding.{gives_all, lines_none, feeding-none, feeding-room, feeding-taken, feeding-written, feeding-on, feeding-done, feeding-out}
 use Rattle.run.proofs.feed.Goals as goal
 
 pub loop-left-init : goal.loop-left-init
@@ -21,7 +19,7 @@ returns-then-block-taken c =
     let l = c.loop-left in
     let both = gives_all (progress_of a.run a.streams.now a.kinds.now a.counts.now a.qids.now) a.held.now a.run.begun (portion (length a.out.now) a.block.now) a.out.now c.least.ensures
     (feeding-done (progress_of l.current l.streams l.kinds l.counts l.qids) l.current.begun l.taken l.written l.left l.held l.out l.invariant.2 (feeding-out (progress_of l.current l.streams l.kinds l.counts l.qids) l.current.begun l.taken l.written l.left l.held l.out l.invariant.2 c.if-block-taken.true)) in
-    record { progress = both.0; begun = both.1; taken = both.2; written = both.3; held = both.4; filled = both.5 }
+    record { progress = both.0; begun = both.1.0; taken = both.1.1.0; written = both.1.1.1.0; held = both.1.1.1.1.0; filled = both.1.1.1.1.1 }
 
 pub feed_line-next-requires : goal.feed_line-next-requires
 feed_line-next-requires c = let l = c.loop-left in feeding-room (progress_of l.current l.streams l.kinds l.counts l.qids) l.current.begun l.taken l.written l.left l.held l.out l.invariant.2 c.loop-left-test.true
@@ -30,13 +28,13 @@ pub overflow_add-taken : goal.overflow_add-taken
 overflow_add-taken c =
     let l = c.loop-left in
     let t = c.feed_line-next in
-    omega (arith, feeding-taken (progress_of l.current l.streams l.kinds l.counts l.qids) l.current.begun l.taken l.written l.left l.held l.out l.invariant.2 t.ensures.1.1.0)
+    omega (arith, feeding-taken (progress_of l.current l.streams l.kinds l.counts l.qids) l.current.begun l.taken l.written l.left l.held l.out l.invariant.2 t.ensures.taken)
 
 pub overflow_add-written : goal.overflow_add-written
 overflow_add-written c =
     let l = c.loop-left in
     let t = c.feed_line-next in
-    omega (arith, feeding-written (progress_of l.current l.streams l.kinds l.counts l.qids) l.current.begun l.taken l.written l.left l.held l.out l.invariant.2 c.loop-left-test.true t.ensures.1.1.1.0)
+    omega (arith, feeding-written (progress_of l.current l.streams l.kinds l.counts l.qids) l.current.begun l.taken l.written l.left l.held l.out l.invariant.2 c.loop-left-test.true t.ensures.written)
 
 pub overflow_sub-left : goal.overflow_sub-left
 overflow_sub-left c = omega (arith, c.loop-left-test.true)
@@ -47,8 +45,9 @@ loop-left-smaller c = omega (arith, c.loop-left-test.true)
 pub loop-left-preserved : goal.loop-left-preserved
 loop-left-preserved c =
     let l = c.loop-left in
-    let h : length c.feed_line-next.new.1.1.1.1.1.0 ≡ length l.held = search rules in
-    (search rules, search rules, feeding-on (progress_of l.current l.streams l.kinds l.counts l.qids) l.current.begun l.taken l.written l.left l.held l.out l.invariant.2 (l.left - 1) (omega (arith, c.loop-left-test.true)) c.feed_line-next.ensures h)
+    let e = c.feed_line-next.ensures in
+    let h : length c.feed_line-next.new.held ≡ length l.held = search rules in
+    (search rules, search rules, feeding-on (progress_of l.current l.streams l.kinds l.counts l.qids) l.current.begun l.taken l.written l.left l.held l.out l.invariant.2 (l.left - 1) (omega (arith, c.loop-left-test.true)) (e.progress, (e.begun, (e.taken, (e.written, (e.held, e.filled))))) h)
 
 pub returns : goal.returns
 returns c =
@@ -57,4 +56,4 @@ returns c =
     let z : l.left ≡ 0 = omega (arith, c.loop-left-test.false) in
     let both = gives_all (progress_of a.run a.streams.now a.kinds.now a.counts.now a.qids.now) a.held.now a.run.begun (portion (length a.out.now) a.block.now) a.out.now c.least.ensures
     (feeding-done (progress_of l.current l.streams l.kinds l.counts l.qids) l.current.begun l.taken l.written l.left l.held l.out l.invariant.2 (lines_none l.left _ z)) in
-    record { progress = both.0; begun = both.1; taken = both.2; written = both.3; held = both.4; filled = both.5 }
+    record { progress = both.0; begun = both.1.0; taken = both.1.1.0; written = both.1.1.1.0; held = both.1.1.1.1.0; filled = both.1.1.1.1.1 }

@@ -1,13 +1,10 @@
 -- `run::feed` meets its contract. The loop's invariant: what the block gives is what is left of it gives, behind what is written. Assumes nothing.
-use mathlib.Core.Path.{◌≡◌, refl}
-use Prim.Native.Nat.{◌-◌}
-use native.Mathlib.Omega.{arith}
-use borrow.Author.Rules.{rules}
+use mathlib.Core.Path.{◌≡◌}
 use lib.ListN.{length, take}
 use Rattle.lines.specs.Lines.{first_lines}
 use Rattle.lines.specs.Blocks.{cut}
-use Rattle.run.specs.Run.{progress_of, portion}
-use Rattle.run.proofs.Feeding.{gives_all, lines_none, Feeding, feeding-none, feeding-room, feeding-taken, feeding-written, feeding-on, feeding-done, feeding-out}
+use Rattle.run.specs.Run.{progress_of}
+use Rattle.run.proofs.Feeding.{Feeding}
 use Rattle.run.proofs.feed.Given as goal
 
 abbrev pub invariant-loop-left : goal.invariant-loop-left

@@ -3,7 +3,6 @@ use mathlib.Core.Path.{refl, ap}
 use mathlib.Core.Bool.{true}
 use lib.IntN.{pos}
 use lib.ListN.{replicate}
-use borrow.Author.Rules.{rules}
 use Rattle.session.specs.declared.phase.Session.{Session}
 use Rattle.run.specs.Run.{Progress, progress_in}
 use Rattle.run.proofs.fresh.Goals as goal

@@ -1,5 +1,4 @@
 -- `serving::after_refusal` meets its contract: by whether the caller closes. Assumes nothing.
-use borrow.Author.Rules.{rules}
 use Rattle.serving.proofs.Turns.{stays, closes}
 use Rattle.serving.proofs.after_refusal.Goals as goal
 

@@ -1,6 +1,5 @@
 -- `serving::succeed` meets its contract: the report, in the words of a take. Assumes nothing.
 use mathlib.Core.Path.{sym, ap}
-use borrow.Author.Rules.{rules}
 use Rattle.states.specs.Answers.{told_reported}
 use Rattle.serving.proofs.Turns.{as-taken}
 use Rattle.serving.proofs.succeed.Goals as goal

@@ -1,6 +1,5 @@
 -- `serving::turn` meets its contract: in each arm the match told what take answered. Assumes nothing.
 use mathlib.Core.Path.{ap, ◌∙◌}
-use borrow.Author.Rules.{rules}
 use Rattle.states.specs.Answers.{told_taken}
 use Rattle.serving.proofs.Turns.{turned}
 use Rattle.serving.proofs.turn.Goals as goal

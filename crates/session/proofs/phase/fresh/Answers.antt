@@ -1,6 +1,5 @@
 -- `phase::fresh` meets its contract. Assumes nothing.
 use mathlib.Core.Path.{ap}
-use borrow.Author.Rules.{rules}
 use Rattle.record.specs.declared.record.Connection.{Connection}
 use Rattle.session.specs.declared.phase.Phase.TheVariants.{Awaiting}
 use Rattle.session.proofs.phase.fresh.Goals as goal

@@ -1,5 +1,4 @@
 -- `session::phase::renewed` meets its contract. Assumes nothing.
-use borrow.Author.Rules.{rules}
 use Rattle.session.proofs.phase.renewed.Goals as goal
 
 pub returns : goal.returns

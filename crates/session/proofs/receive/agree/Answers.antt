@@ -1,7 +1,6 @@
 -- `receive::agree` meets its contract. Assumes nothing.
 use mathlib.Core.Path.{sym, ap, ◌∙◌}
 use native.Mathlib.Omega.{arith}
-use borrow.Author.Rules.{rules}
 use Rattle.handshake.specs.Negotiation.{told as agreed}
 use Rattle.session.specs.Receiving.{alone}
 use Rattle.session.proofs.Receiving.{more-follows, none-follows}

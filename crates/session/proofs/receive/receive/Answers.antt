@@ -1,7 +1,6 @@
 -- `receive::receive` meets its contract: less room brings the same, but for 21. Assumes nothing.
 use mathlib.Core.Path.{◌≡◌, sym, ap, ◌∙◌}
 use native.Mathlib.Omega.{arith}
-use borrow.Author.Rules.{rules}
 use Rattle.refusal.specs.Numbers.{number_of}
 use Rattle.hex_lines.proofs.Lines.{clash}
 use Rattle.session.specs.Receiving.{nothing, request, refusal}

@@ -2,7 +2,6 @@
 use mathlib.Core.Path.{◌≡◌, sym, ap, ◌∙◌}
 use Prim.Native.Nat.{◌/◌, ◌≤◌}
 use native.Mathlib.Omega.{arith}
-use borrow.Author.Rules.{rules}
 use lib.ListN.{length}
 use Rattle.refusal.specs.Answer.{returned, counted}
 use Rattle.hex_lines.specs.Hex.{bytes_told, decoding}
@@ -11,16 +10,15 @@ use Rattle.session.proofs.Receiving.{is-line, is_none, its-bytes, brought-line, 
 use Rattle.session.proofs.receive.receive_in.Goals as goal
 
 pub slice_bounds-receive_frame-end : goal.slice_bounds-receive_frame-end
-slice_bounds-receive_frame-end c = omega (arith, decoded-fits _ _ (sym (ap bytes_told c.in-Bytes.is) ∙ c.decode.ensures.0))
+slice_bounds-receive_frame-end c = omega (arith, decoded-fits _ _ (sym (ap bytes_told c.in-Bytes.is) ∙ c.decode.ensures.answer))
 
 pub returns-in-Bytes : goal.returns-in-Bytes
 returns-in-Bytes c =
-    let s = c.before.before.before.before.before.before.before.before.before.before.before.before.before.before.before.before in
-    let line = s.args.line.now in
-    let room = length s.args.bytes.now in
-    let d : returned c.in-Bytes.n ≡ counted (decoding room line) = sym (ap bytes_told c.in-Bytes.is) ∙ c.decode.ensures.0 in
-    let l : length line / 2 ≤ room = s.requires in
-    c.receive_frame.ensures ∙ brought-line (length s.args.message.now) s.args.version.minor line _ (is-line line room (λ _. l) _ d) (its-bytes line room (λ _. l) _ _ _ d c.decode.ensures.1)
+    let line = c.args.line.now in
+    let room = length c.args.bytes.now in
+    let d : returned c.in-Bytes.n ≡ counted (decoding room line) = sym (ap bytes_told c.in-Bytes.is) ∙ c.decode.ensures.answer in
+    let l : length line / 2 ≤ room = c.requires in
+    c.receive_frame.ensures ∙ brought-line (length c.args.message.now) c.args.version.minor line _ (is-line line room (λ _. l) _ d) (its-bytes line room (λ _. l) _ _ _ d c.decode.ensures.filled)
 
 pub returns-in-Refused : goal.returns-in-Refused
 returns-in-Refused c =

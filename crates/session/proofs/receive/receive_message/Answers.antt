@@ -1,6 +1,5 @@
 -- `receive::receive_message` meets its contract. Assumes nothing.
 use mathlib.Core.Path.{sym, ap, ◌∙◌}
-use borrow.Author.Rules.{rules}
 use Rattle.requests.specs.Requests.{told}
 use Rattle.session.specs.Receiving.{request, arriving}
 use Rattle.session.proofs.receive.receive_message.Goals as goal

@@ -1,32 +1,28 @@
 -- `reply::greet` meets its contract: by the handshake's answer, and by the number of its refusal. Assumes nothing.
-use mathlib.Core.Path.{◌≡◌, refl, sym, ap, ◌∙◌}
+use mathlib.Core.Path.{refl, sym, ap, ◌∙◌}
 use native.Mathlib.Omega.{arith}
-use borrow.Author.Rules.{rules}
 use lib.ListN.{length}
-use Rattle.refusal.specs.Answer.{refused}
-use Rattle.refusal.specs.Numbers.{number_of}
 use Rattle.handshake.specs.Negotiation.{told as agreed}
-use Rattle.session.specs.Receiving.{handshake_in}
 use Rattle.session.proofs.Replies.{agrees_on, away-zeros, away-quiet}
 use Rattle.session.proofs.reply.greet.Goals as goal
 
 pub put_line-end-requires : goal.put_line-end-requires
 put_line-end-requires c = omega (arith, c.requires, ap length c.to_bytes.ensures)
 
-pub put_line-end-requires-then-number-eq3 : goal.put_line-end-requires-then-number-eq3
-put_line-end-requires-then-number-eq3 c = omega (arith, c.requires)
+pub put_line-end-requires-then-number-eq-NONE_IN_COMMON : goal.put_line-end-requires-then-number-eq-NONE_IN_COMMON
+put_line-end-requires-then-number-eq-NONE_IN_COMMON c = omega (arith, c.requires)
 
-pub returns-then-number-eq3 : goal.returns-then-number-eq3
-returns-then-number-eq3 c =
+pub returns-then-number-eq-NONE_IN_COMMON : goal.returns-then-number-eq-NONE_IN_COMMON
+returns-then-number-eq-NONE_IN_COMMON c =
     λ f.
-    away-zeros f _ _ c.replied-then-number-eq3.result _ _ _ ((sym (ap agreed c.in-Refused.is) ∙ c.receive_handshake.ensures)) c.replied-then-number-eq3.ensures (omega (arith, c.number.ensures, c.if-number-eq3.true)) _ c.put_line-end-then-number-eq3.ensures.answer c.put_line-end-then-number-eq3.ensures.filled
+    away-zeros f _ _ c.replied-then-number-eq-NONE_IN_COMMON.result _ _ _ ((sym (ap agreed c.in-Refused.is) ∙ c.receive_handshake.ensures)) c.replied-then-number-eq-NONE_IN_COMMON.ensures (omega (arith, c.number.ensures, c.if-number-eq-NONE_IN_COMMON.true)) _ c.put_line-end-then-number-eq-NONE_IN_COMMON.ensures.answer c.put_line-end-then-number-eq-NONE_IN_COMMON.ensures.filled
 
 pub returns-in-Agreed : goal.returns-in-Agreed
 returns-in-Agreed c =
     λ f.
     agrees_on f _ _ c.replied.result _ _ _ (sym (ap agreed c.in-Agreed.is) ∙ c.receive_handshake.ensures) c.replied.ensures _ c.to_bytes.ensures _ c.put_line-end.ensures.answer c.put_line-end.ensures.filled
 
-pub returns-else-number-eq3 : goal.returns-else-number-eq3
-returns-else-number-eq3 c =
+pub returns-else-number-eq-NONE_IN_COMMON : goal.returns-else-number-eq-NONE_IN_COMMON
+returns-else-number-eq-NONE_IN_COMMON c =
     λ f.
-    away-quiet f _ _ c.replied-in-Refused.result _ _ _ ((sym (ap agreed c.in-Refused.is) ∙ c.receive_handshake.ensures)) c.replied-in-Refused.ensures (λ h. c.if-number-eq3.false (c.number.ensures ∙ h)) refl
+    away-quiet f _ _ c.replied-in-Refused.result _ _ _ ((sym (ap agreed c.in-Refused.is) ∙ c.receive_handshake.ensures)) c.replied-in-Refused.ensures (λ h. c.if-number-eq-NONE_IN_COMMON.false (c.number.ensures ∙ h)) refl

@@ -1,8 +1,6 @@
 -- `reply::reply_to` meets its contract: by the session's phase, and by what the line brings. Assumes nothing.
 use mathlib.Core.Path.{refl, sym, ap, ◌∙◌}
-use borrow.Author.Rules.{rules}
 use Rattle.record.specs.declared.record.Control.{Control}
-use Rattle.record.specs.declared.record.Connection.{Connection}
 use Rattle.record.specs.Record.{joined}
 use Rattle.serving.specs.declared.Ending.TheVariants as E
 use Rattle.session.specs.Private.Receiving.{told}
@@ -18,7 +16,7 @@ returns-in-KeepAlive c = answers-none _ _ _ c.in-Open.is _ (sym (ap told c.in-Ke
 pub returns-in-Request : goal.returns-in-Request
 returns-in-Request c =
     let q = c.request-served in
-    answers _ _ _ c.in-Open.is _ (sym (ap told c.in-Request.is) ∙ c.receive.ensures) (λ k. joined k q.new.1.0 q.new.1.1.0 q.new.1.1.1.0 q.new.1.1.1.1.0) q.result
+    answers _ _ _ c.in-Open.is _ (sym (ap told c.in-Request.is) ∙ c.receive.ensures) (λ k. joined k q.new.streams q.new.kinds q.new.counts q.new.qids) q.result
     c.replied-in-Request.result c.replied-in-Request.ensures _ _ q.ensures
 
 pub returns-in-Refused : goal.returns-in-Refused

@@ -1,7 +1,6 @@
 -- `write::put_line` meets its contract: the digits in the part that was lent for them, and the line's end behind. Assumes nothing.
 use Prim.Native.Nat.{◌+◌, ◌-◌, ◌*◌}
 use native.Mathlib.Omega.{arith}
-use borrow.Author.Rules.{rules}
 use lib.ListN.{length}
 use Rattle.session.proofs.Writing.{length-line, line-put}
 use Rattle.session.proofs.write.put_line.Goals as goal
