@@ -1,4 +1,4 @@
--- `packing::pack_string` meets its contract. Each test is one of `stringForm`'s or that for room, in their order. Assumes nothing.
+-- `packing::pack_string` meets its contract. Each test is one of `string_form`'s or that for room, in their order. Assumes nothing.
 use Prim.Native.Nat.{◌+◌}
 use native.Mathlib.Omega.{arith}
 use lib.Dec.{lit≤}

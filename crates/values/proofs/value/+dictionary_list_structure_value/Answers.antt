@@ -301,7 +301,7 @@ dictionary-bounds-scratch-next-in-String t c =
     let a = c.args in
     let l = c.loop-i in
     let r = turn a.message.now l.scratch a.scratch.now a.first a.top l.at l.i c.in-String.start c.in-String.size c.requires.0 l.invariant.0 l.invariant.2 c.in-String.ensures in
-    omega (arith, r.places, length-set l.scratch (a.top + 2 * l.i) c.in-String.start)
+    simp length-set (omega (arith, r.places))
 
 pub dictionary-value-item-requires : goal.dictionary-value-item-requires
 dictionary-value-item-requires t c =
@@ -311,7 +311,7 @@ dictionary-value-item-requires t c =
     let room = c.requires.0 in
     let enough = room.enough in (
       omega (arith, r.key.past, l.invariant.1),
-      record { short = room.short; enough = omega (arith, length-keep l.scratch (a.top + 2 * l.i) c.in-String.start c.in-String.size, l.invariant.2); below = r.under },
+      record { short = room.short; enough = simp length-set (omega (arith, l.invariant.2)); below = r.under },
     )
 
 pub dictionary-returns-in-Refused-item : goal.dictionary-returns-in-Refused-item
