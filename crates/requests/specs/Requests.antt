@@ -14,9 +14,7 @@ use Rattle.entries.specs.declared.view.Text.{Text}
 use Rattle.entries.specs.declared.view.Text.TheVariants as T
 use Rattle.entries.specs.declared.view.Place.{Place}
 use Rattle.entries.specs.declared.view.Place.TheVariants as P
-use Rattle.entries.specs.declared.view.Mode.{Mode}
 use Rattle.entries.specs.declared.view.Mode.TheVariants as M
-use Rattle.requests.specs.declared.request.Number.{Number}
 use Rattle.requests.specs.declared.request.Number.TheVariants as N
 use Rattle.requests.specs.declared.request.Transaction.{Transaction}
 use Rattle.requests.specs.declared.request.Batch.{Batch}

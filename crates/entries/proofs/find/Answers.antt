@@ -1,17 +1,11 @@
 -- `entries::find` meets its contract. The loop's invariant: with the entries from the i-th on, what is noted is what the whole walk
 -- notes. Assumes nothing.
-use mathlib.Core.Path.{◌≡◌, sym, ◌∙◌}
-use Prim.Native.Nat.{◌≤◌, ◌-◌, ◌+◌}
+use mathlib.Core.Path.{sym, ◌∙◌}
 use native.Mathlib.Numerals.{unary_clauses}
 use native.Mathlib.Omega.{arith}
-use lib.ListN.{length}
-use borrow.Author.Rules.{rules}
-use Rattle.values.specs.Walk.{peek_at}
-use Rattle.entries.specs.Walk.{string_found}
-use Rattle.entries.specs.declared.view.Text.TheVariants as T
 use Rattle.entries.proofs.Naming.{number_bound}
 use Rattle.entries.proofs.Peeking.{string-within}
-use Rattle.entries.proofs.Walking.{Noting, all_noted, no_key, no_value, one-noted, last-noted}
+use Rattle.entries.proofs.Walking.{all_noted, no_key, no_value, one-noted, last-noted}
 use Rattle.entries.proofs.find.Goals as goal
 
 pub loop-i-init : goal.loop-i-init

@@ -1,6 +1,5 @@
 -- `entries::view::entry_at` meets its contract. Assumes nothing.
 use mathlib.Core.Path.{ap}
-use borrow.Author.Rules.{rules}
 use Rattle.entries.specs.declared.view.View.{View}
 use Rattle.entries.proofs.view.entry_at.Goals as goal
 

@@ -1,7 +1,6 @@
 -- `entries::view::string_at` meets its contract: by the extent that is found. Assumes nothing.
 use mathlib.Core.Path.{sym, ◌∙◌}
 use mathlib.Core.Bool.{true, false}
-use borrow.Author.Rules.{rules}
 use Rattle.entries.proofs.Peeking.{text_at, leaf-text}
 use Rattle.entries.proofs.view.string_at.Goals as goal
 

@@ -1,13 +1,10 @@
 -- `entries::view::view_at` meets its contract: by the head that is found. Assumes nothing.
-use mathlib.Core.Path.{◌≡◌, sym, ap, ◌∙◌}
-use mir.Facts.{to_z-of_z}
-use borrow.Author.Rules.{sfits_of, rules}
+use mathlib.Core.Path.{sym, ap, ◌∙◌}
+use borrow.Author.Rules.{rules}
 use borrow.Author.Tests.{eq-eqb, ne_eqb}
-use Rattle.values.specs.Walk.{peek_at}
 use Rattle.values.specs.declared.walk.Peeked.TheVariants as P
 use Rattle.entries.specs.View.{span}
-use Rattle.entries.specs.Walk.{string_found, view_head, view_at}
-use Rattle.entries.specs.declared.view.View.{View}
+use Rattle.entries.specs.Walk.{string_found, view_head}
 use Rattle.entries.specs.declared.view.View.TheVariants as As
 use Rattle.entries.proofs.Peeking.{string-within}
 use Rattle.entries.proofs.Viewing.{view-is, of-no-use}

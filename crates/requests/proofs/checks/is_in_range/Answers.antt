@@ -1,7 +1,6 @@
 -- `requests::checks::is_in_range` meets its contract: range by range. Assumes nothing.
 use mathlib.Core.Path.{ap, ◌∙◌}
 use mir.Facts.{to_z-of_z}
-use borrow.Author.Rules.{rules}
 use Rattle.bolt.specs.Ranges.{minus_one_or}
 use Rattle.requests.proofs.Checking.{timeout-is}
 use Rattle.requests.proofs.checks.is_in_range.Goals as goal

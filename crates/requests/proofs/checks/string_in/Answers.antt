@@ -1,6 +1,5 @@
 -- `requests::checks::string_in` meets its contract: by the kinds of the view. Assumes nothing.
 use mathlib.Core.Path.{sym, ap, ◌∙◌}
-use borrow.Author.Rules.{rules}
 use Rattle.requests.specs.Checks.{complaints}
 use Rattle.requests.specs.Requests.{refused_by}
 use Rattle.requests.specs.Private.Views.{string_as}

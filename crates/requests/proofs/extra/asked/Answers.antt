@@ -1,6 +1,5 @@
 -- `requests::extra::asked` meets its contract: by the kind. Assumes nothing.
 use mathlib.Core.Path.{sym, ap, ◌∙◌}
-use borrow.Author.Rules.{rules}
 use Rattle.requests.specs.Private.Checks.{told_transaction, told_batch}
 use Rattle.requests.proofs.extra.asked.Goals as goal
 

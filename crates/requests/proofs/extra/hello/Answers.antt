@@ -6,7 +6,6 @@ use Prim.Native.Nat.{ℕ}
 use native.Mathlib.Omega.{arith}
 use lib.Dec.{leb}
 use lib.ListN.{get_or}
-use borrow.Author.Rules.{rules}
 use Rattle.entries.specs.Names as Name
 use Rattle.entries.specs.Lookup.{absent}
 use Rattle.entries.specs.View.{seen}

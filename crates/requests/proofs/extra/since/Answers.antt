@@ -1,6 +1,5 @@
 -- `requests::extra::since` meets its contract: by the version. Assumes nothing.
 use mathlib.Core.Path.{sym, ◌∙◌}
-use borrow.Author.Rules.{rules}
 use Rattle.requests.proofs.extra.since.Goals as goal
 
 pub returns-then-is_from : goal.returns-then-is_from

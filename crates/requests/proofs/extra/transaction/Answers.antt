@@ -4,7 +4,6 @@ use mathlib.Core.List.{List}
 use Prim.Native.Nat.{ℕ}
 use native.Mathlib.Omega.{arith}
 use lib.ListN.{get_or}
-use borrow.Author.Rules.{rules}
 use Rattle.entries.specs.Names as Name
 use Rattle.requests.specs.Checks.{complaints}
 use Rattle.requests.specs.Private.Views.{string_seen, dictionary_seen, list_of_strings_seen, mode_seen, integer_seen, in_range, transaction_seen}

@@ -1,7 +1,6 @@
 -- `requests::read::bare` meets its contract: by the number of fields. Assumes nothing.
 use mathlib.Core.Path.{ap, ◌∙◌}
 use borrow.Author.Tests.{eq-eqb, ne_eqb}
-use borrow.Author.Rules.{rules}
 use Rattle.requests.specs.Requests.{told}
 use Rattle.requests.proofs.read.bare.Goals as goal
 

@@ -2,7 +2,6 @@
 use mathlib.Core.Path.{ap, ◌∙◌}
 use native.Mathlib.Omega.{arith}
 use borrow.Author.Tests.{ne_eqb}
-use borrow.Author.Rules.{rules}
 use Rattle.requests.specs.Requests.{tagged, told}
 use Rattle.requests.proofs.Fields.{none_is}
 use Rattle.requests.proofs.read.by_tag.Goals as goal

@@ -1,6 +1,5 @@
 -- `requests::read::extra_alone` meets its contract: the one field is a Dictionary, or it is not. Assumes nothing.
 use mathlib.Core.Path.{sym, ap, ◌∙◌}
-use borrow.Author.Rules.{rules}
 use Rattle.requests.specs.Checks.{complaints}
 use Rattle.requests.specs.Requests.{extra, told, refused_by}
 use Rattle.requests.specs.Private.Views.{asks}

@@ -1,6 +1,5 @@
 -- `requests::read::read_request` meets its contract: by what is told of the message. Assumes nothing.
 use mathlib.Core.Path.{sym, ap, ◌∙◌}
-use borrow.Author.Rules.{rules}
 use Rattle.values.specs.Reading.{told as told_value}
 use Rattle.requests.specs.Requests.{told}
 use Rattle.requests.proofs.Roots.{no-structure, structure-there, value-refused}

@@ -2,7 +2,6 @@
 use mathlib.Core.Path.{sym, ap, ◌∙◌}
 use Prim.Native.Nat.{◌+◌}
 use native.Mathlib.Omega.{arith}
-use borrow.Author.Rules.{rules}
 use Rattle.refusal.specs.Answer.{Answer, returned, and_then}
 use Rattle.requests.specs.Checks.{complaints}
 use Rattle.requests.specs.Private.Checks.{told_transaction}

@@ -3,7 +3,6 @@ use mathlib.Core.Path.{ap}
 use lib.ListN.{length}
 use Rattle.states.specs.declared.answers.Failure.TheVariants as F
 use Rattle.summaries.proofs.Summaries.{failure-form}
-use borrow.Author.Rules.{rules}
 use Rattle.summaries.proofs.summary.failure_length.Goals as goal
 
 pub returns-in-StreamsFull : goal.returns-in-StreamsFull

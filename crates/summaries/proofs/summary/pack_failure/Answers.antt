@@ -1,7 +1,6 @@
 -- `summaries::summary::pack_failure` meets its contract. Assumes nothing.
 use Rattle.states.specs.declared.answers.Failure.TheVariants as F
 use Rattle.summaries.proofs.Summaries.{same-form, failure-form}
-use borrow.Author.Rules.{rules}
 use Rattle.summaries.proofs.summary.pack_failure.Goals as goal
 
 pub returns-in-StreamsFull : goal.returns-in-StreamsFull

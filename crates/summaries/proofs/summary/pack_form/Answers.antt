@@ -3,7 +3,6 @@ use mathlib.Core.Path.{ap}
 use mathlib.Core.Bool.{not}
 use native.Mathlib.Omega.{arith}
 use Rattle.summaries.proofs.Summaries.{form-refused, form-room, form-packed}
-use borrow.Author.Rules.{rules}
 use Rattle.summaries.proofs.summary.pack_form.Goals as goal
 
 pub returns-then-not-copy : goal.returns-then-not-copy

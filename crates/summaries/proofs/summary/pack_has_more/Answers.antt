@@ -1,6 +1,5 @@
 -- `summaries::summary::pack_has_more` meets its contract. Assumes nothing.
 use Rattle.summaries.proofs.Summaries.{same-form, more-form, last-form}
-use borrow.Author.Rules.{rules}
 use Rattle.summaries.proofs.summary.pack_has_more.Goals as goal
 
 pub returns-then-more : goal.returns-then-more

@@ -7,7 +7,6 @@ use Rattle.packing.proofs.Packing.{no_room}
 use Rattle.states.specs.declared.answers.Summary.TheVariants as S
 use Rattle.summaries.specs.Summaries.{pack_summary}
 use Rattle.summaries.proofs.Summaries.{stream-number, stream-room, stream-packed}
-use borrow.Author.Rules.{rules}
 use Rattle.summaries.proofs.summary.pack_stream.Goals as goal
 
 pub returns-then-not-in_bounds : goal.returns-then-not-in_bounds

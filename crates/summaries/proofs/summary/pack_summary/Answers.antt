@@ -1,6 +1,5 @@
 -- `summaries::summary::pack_summary` meets its contract. Assumes nothing.
 use Rattle.summaries.proofs.Summaries.{same-form, ignored-form, success-form}
-use borrow.Author.Rules.{rules}
 use Rattle.summaries.proofs.summary.pack_summary.Goals as goal
 
 pub returns-in-Ignored : goal.returns-in-Ignored

@@ -1,7 +1,6 @@
 -- `summaries::summary::stream_length` meets its contract. Assumes nothing.
 use native.Mathlib.Omega.{arith}
 use Rattle.summaries.proofs.Summaries.{integer-behind, stream-number, stream-size}
-use borrow.Author.Rules.{rules}
 use Rattle.summaries.proofs.summary.stream_length.Goals as goal
 
 pub overflow_add-result : goal.overflow_add-result

@@ -2,7 +2,6 @@
 use mathlib.Core.Path.{ap}
 use lib.ListN.{length}
 use Rattle.summaries.proofs.Summaries.{ignored-form, success-form, has-more-size}
-use borrow.Author.Rules.{rules}
 use Rattle.summaries.proofs.summary.summary_length.Goals as goal
 
 pub returns-in-Ignored : goal.returns-in-Ignored
