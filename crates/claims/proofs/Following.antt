@@ -15,10 +15,13 @@ use Rattle.bolt.specs.Requests.{tag, RESET}
 use Rattle.states.specs.declared.state.State.{State}
 use Rattle.states.specs.declared.state.State.TheVariants.{Connected, Ready, Streaming, TxReady, TxStreaming, Failed, Interrupted, Defunct}
 use Rattle.states.specs.declared.request.Request.{Request}
+use Rattle.states.specs.declared.request.Request.TheVariants.{Hello}
+use Rattle.states.specs.declared.answers.Outcome.TheVariants.{Success}
 use Rattle.states.specs.Requests.{kind_of, rank, in_state, is, in_range, any}
 use Rattle.states.specs.Table as T
-use Rattle.states.specs.Table.{Open, Table, Call, Said, Done, step, accept, enqueued}
-use Rattle.states.specs.Rules.{first_in_flight}
+use Rattle.states.specs.Table.{Open, Table, Call, Said, Done, step, accept, enqueued, turn_of, ignores, names_open, is_full, success_streams, success_summary}
+use Rattle.states.specs.Rules.{first_in_flight, rules, state_rules, counts_rule, numbers_rule, waiting_rule, may_be_in_flight}
+use Rattle.states.specs.Appendix.{hands_over, works, new_state}
 use Rattle.states.specs.Events.{said_by, left_by, run_t, events_t, accepted_by, first}
 use Rattle.states.proofs.Bools.{by-test, and_both, and_left, and_right, not-no}
 use Rattle.states.proofs.Counting.{Awaits, idles, flies, Moved, quiet, spoke, moved, either}
@@ -27,7 +30,7 @@ use Rattle.states.proofs.Lists.{take-sets}
 use Rattle.record.specs.declared.record.Connection.{Connection}
 use Rattle.record.specs.Names.{count_of, qid_of}
 use Rattle.record.specs.Ring.{Place, place, behind, place_at, unnamed}
-use Rattle.record.specs.Record.{places_in, kept, bounded, named, keeps_rules}
+use Rattle.record.specs.Record.{places_in, kept, bounded, named, keeps_rules, fresh}
 use Rattle.record.specs.Calls.{After, put, stored, Storing, storing, nowhere, carried, called}
 use Rattle.record.proofs.Keeping.{Bounds, size, stays, moves-on}
 use Rattle.record.proofs.Numbers.{state-of-rank}
@@ -221,10 +224,16 @@ stores_of T.take = nowhere
 stores_of (T.report o) = nowhere
 stores_of T.close = nowhere
 
+-- a report, once a HELLO has come that no take has handed over: it is on the record as the call before it left it. The law below rests on it: a
+-- wrong report shows here, at values, where the terms of any record would be compared without end
+unasked : (call_of (run fresh (T.arrive Hello ∷ [])) (T.report Success)).answer ≡ refused 19 0
+unfolding keeps_rules bounded named rules state_rules counts_rule numbers_rule waiting_rule may_be_in_flight turn_of hands_over ignores works names_open is_full new_state success_streams success_summary
+unasked = refl
+
 pub call-called : (c : Connection) (x : Call) → call_of c x ≡ called (stores_of x) c (step (kept c) x)
 call-called c (T.arrive r) = refl
 call-called c T.take = refl
-call-called c (T.report o) = refl
+call-called c (T.report o) = let own : (call_of (run fresh (T.arrive Hello ∷ [])) (T.report Success)).answer ≡ refused 19 0 = unasked in refl
 call-called c T.close = refl
 
 pub called-by : (h : Storing) (c : Connection) (a : Answer Done) {b : Bool} → keeps_rules c ≡ b → called h c a ≡ cond b (carried h c a) (record { connection = c; answer = refused 24 0 })
