@@ -3,7 +3,6 @@ use mathlib.Core.Path.{sym, ap, ◌∙◌}
 use native.Mathlib.Omega.{arith}
 use Rattle.hex_lines.specs.Hex.{bytes_told}
 use Rattle.hex_lines.proofs.Lines.{decoded-fits}
-use borrow.Author.Rules.{rules}
 use Rattle.vectors.proofs.run_line.Goals as goal
 
 pub slice_bounds-run_vector-end : goal.slice_bounds-run_vector-end

@@ -1,5 +1,5 @@
 -- `calls::conversation::hold` meets its contract: each call is made on the record as the call before it left it. Assumes nothing.
-use Rattle.std.proofs.Common.{◌≡◌, ap, ◌∙◌, [], ◌∷◌}
+use Rattle.std.proofs.Common.{ap, ◌∙◌, [], ◌∷◌}
 use Rattle.record.specs.declared.record.Connection.{Connection}
 use Rattle.record.specs.Calls.{arrive_of, take_of, report_of, close_of}
 use Rattle.calls.specs.Private.Conversation.{conversation, round, after}
