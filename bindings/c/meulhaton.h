@@ -1,7 +1,7 @@
 /* Meulhaton for C: the server's end of Bolt 4.0, 4.1 and 4.2 as functions on numbers and bytes.
  *
- * Link target/staticlib/libmeulhaton.a, which `tools/build meulhaton` writes (x86-64 Linux). Every function is proved, in the crate
- * `meulhaton`, to answer what the layer below it is defined to answer, to write nothing outside what it is lent, and to return. It
+ * Link target/staticlib/libmeulhaton.a, which `tools/build meulhaton` writes (x86-64 Linux). Every function is proved, in the crates
+ * `meulhaton` and `meulhaton_c`, to answer what the layer below it is defined to answer, to write nothing outside what it is lent, and to return. It
  * allocates nothing, keeps nothing between calls and does no input or output.
  *
  * What the caller owes. A slice is a pointer and a length. The pointer is not NULL, also where the length is 0; the length is that of
