@@ -1,7 +1,7 @@
 // Standard input, block by block and line by line, through memory that the program lends to each call and leaves alone between them. A line
 // ends with 0A, which the last may lack: it is a line if it has characters. Of a line that is longer than the memory in which lines are held,
 // its beginning is a line.
-ghost use Rattle.std.specs.Prelude.{◌≡◌, false, ◌≤◌, IfOk, length};
+ghost use Rattle.std.specs.Prelude.{◌≡◌, false, ◌≤◌, IfOk, OnErr, length};
 
 use std::io;
 use std::io::Read;
@@ -9,9 +9,11 @@ use std::io::Read;
 // How many bytes a program lends for what is read at a time.
 pub const BLOCK: usize = 65536;
 
-// Reads what comes next, as far as there is room, and answers how many bytes it is: 0 where nothing more comes.
+// Reads what comes next, as far as there is room, and answers how many bytes it is: 0 where nothing more comes. Fails only where the system's
+// read does, which may have written anything into the block.
 pub fn read(rt: HostRuntime, block: &mut [u8]) -> io::Result<usize>
-    ensures { IfOk result (λ n. n ≤ length block.new) }
+    ensures ok { IfOk result (λ n. n ≤ length block.new) }
+    ensures err { OnErr result (length block.new ≡ length block.old) }
 {
     let mut stdin = rt.stdin();
     stdin.read(block)
@@ -56,8 +58,10 @@ fn take_read(input: Input, block: &[u8], held: &mut [u8]) -> Input
 }
 
 // The next line, at the front of `held`. The input need not end, so the turns are counted down from a number that no run uses up.
+// Fails only where a read does: then the two memories hold what was read before, and `block` anything.
 pub fn next(rt: HostRuntime, last: Input, block: &mut [u8], held: &mut [u8]) -> io::Result<Input>
-    ensures { IfOk result (λ line. line.size ≤ length held.new) }
+    ensures ok { IfOk result (λ line. line.size ≤ length held.new) }
+    ensures err { OnErr result ((length block.new ≡ length block.old) × (length held.new ≡ length held.old)) }
 {
     let begun = if last.found { 0 } else { last.size };
     let unread = Input {

@@ -2,7 +2,7 @@
 // ends, the connection closes or a line is refused. Document 01, "Bench trial program". What the whole input leads to: crates/run.
 #![tactic(auto)]
 
-ghost use Rattle.std.specs.Prelude.{◌≡◌, ◌≤◌, IfOk, length, take};
+ghost use Rattle.std.specs.Prelude.{◌≡◌, ◌≤◌, IfOk, OnErr, length, take};
 ghost use Rattle.session.specs.Room.{enough};
 ghost use Rattle.run.specs.Run.{progress_of, cut_in, step_in};
 
@@ -13,7 +13,8 @@ use std::io;
 // What 64 lines can send at most.
 const ROOM: usize = 281600;
 
-// Hands a block over, portion by portion, and writes what each leads to.
+// Hands a block over, portion by portion, and writes what each leads to. Fails only where a write does: the record, what is held and `out` are
+// then as the last portion left them.
 fn pass(
     rt: HostRuntime,
     before: Run,
@@ -28,6 +29,7 @@ fn pass(
     requires { enough ≤ length out.old }
     ensures progress { IfOk result (λ after. progress_of after streams.new kinds.new counts.new qids.new ≡ (step_in held.old before streams.old kinds.old counts.old qids.old block.now).progress) }
     ensures begun { IfOk result (λ after. take after.begun held.new ≡ (cut_in held.old before block.now).begun) }
+    ensures err { OnErr result ((length held.new ≡ length held.old) × (length out.new ≡ length out.old)) }
 {
     let mut state = before;
     let mut from = 0;

@@ -42,4 +42,4 @@ returns c =
     let a = c.args in
     let l = c.loop-from in
     let both = passing-done (progress_of a.before a.streams.now a.kinds.now a.counts.now a.qids.now) (cut_in a.held.now a.before a.block.now) a.block.now (progress_of l.state l.streams l.kinds l.counts l.qids) l.held l.state.begun l.from l.invariant.2 c.loop-from-test.false in
-    record { progress = both.0; begun = both.1 }
+    record { progress = both.0; begun = both.1; err = search rules }
