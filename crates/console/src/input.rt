@@ -58,7 +58,7 @@ fn take_read(input: Input, block: &[u8], held: &mut [u8]) -> Input
 }
 
 // The next line, at the front of `held`. The input need not end, so the turns are counted down from a number that no run uses up.
-// Fails only where a read does: then the two memories hold what was read before, and `block` anything.
+// Fails only where a read does: then `held` has what came of the line until then, and `block` may hold anything.
 pub fn next(rt: HostRuntime, last: Input, block: &mut [u8], held: &mut [u8]) -> io::Result<Input>
     ensures ok { IfOk result (λ line. line.size ≤ length held.new) }
     ensures err { OnErr result ((length block.new ≡ length block.old) × (length held.new ≡ length held.old)) }
