@@ -12,10 +12,7 @@ pub const MOST_BYTES: usize = 16384;
 pub fn is_count(n: i64) -> bool
     ensures { result ≡ minus_one_or 1 n }
 {
-    if 0 <= n {
-        return 1 <= n;
-    }
-    -1 <= n
+    n == -1 || 1 <= n
 }
 
 // Whether qid is -1 or at least 0.

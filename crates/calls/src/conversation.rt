@@ -3,19 +3,20 @@ ghost use Rattle.std.specs.Prelude.{◌≡◌};
 ghost use Rattle.calls.specs.Private.Conversation.{conversation, told};
 
 use record::record::Connection;
-use states::answers::{Arrival, Closing, Outcome, Reported, Taken};
+use refusal::Refusal;
+use states::answers::{Answered, Arrival, Outcome, Taken};
 use states::request::Request;
 
 // What the calls answered, in their order.
-#[derive(Clone, Copy)]
+#[derive(Clone, Copy, Debug, PartialEq, Eq)]
 pub struct Heard {
-    pub arrival: Arrival,
-    pub taken: Taken,
-    pub reported: Reported,
-    pub second_arrival: Arrival,
-    pub second_taken: Taken,
-    pub second_reported: Reported,
-    pub closing: Closing,
+    pub arrival: Result<Arrival, Refusal>,
+    pub taken: Result<Taken, Refusal>,
+    pub reported: Result<Answered, Refusal>,
+    pub second_arrival: Result<Arrival, Refusal>,
+    pub second_taken: Result<Taken, Refusal>,
+    pub second_reported: Result<Answered, Refusal>,
+    pub closing: Result<(), Refusal>,
 }
 
 // Two requests, each with its turn and the engine's outcome, and the end of the connection.
@@ -37,12 +38,12 @@ pub fn hold(
     let second_reported = connection::report(&mut connection, ending);
     let closing = connection::close(&mut connection);
     Heard {
-        arrival: arrival,
-        taken: taken,
-        reported: reported,
-        second_arrival: second_arrival,
-        second_taken: second_taken,
-        second_reported: second_reported,
-        closing: closing,
+        arrival,
+        taken,
+        reported,
+        second_arrival,
+        second_taken,
+        second_reported,
+        closing,
     }
 }

@@ -18,7 +18,7 @@
 #![tactic(auto)]
 
 mod answers;
-mod by_value;
+mod by_parts;
 mod conversation;
 mod operands;
 mod operations;
@@ -27,58 +27,44 @@ mod set;
 mod show;
 
 use console::{input, output};
-use hex_lines::Decoded;
 use record::record::Connection;
 use std::io;
 
 // What the name of a group of lines begins with.
 const NAME_MARK: u8 = b'#';
 
-// Performs the operation that a line's first byte names on the bytes after it. The line's bytes are the first `size`.
-fn run_bytes(
-    rt: HostRuntime,
-    bytes: &[u8],
-    size: usize,
-    connection: Connection,
-) -> io::Result<Connection> {
-    if size == 0 {
-        return answers::no_operation(rt, connection);
+// Performs the operation that the first byte names on the bytes after it.
+fn run_bytes(rt: HostRuntime, bytes: &[u8], connection: &mut Connection) -> io::Result<()> {
+    match bytes {
+        [operation, operands @ ..] => operations::perform(rt, *operation, operands, connection),
+        [] => answers::no_operation(rt),
     }
-    if bytes.len() < size {
-        return answers::no_operation(rt, connection);
-    }
-    operations::perform(rt, bytes[0], &bytes[1..size], connection)
 }
 
 fn run_line(
     rt: HostRuntime,
     line: &[u8],
     bytes: &mut [u8],
-    connection: Connection,
-) -> io::Result<Connection> {
-    if operands::byte_at(line, 0) == NAME_MARK {
-        output::text(rt, line)?;
-        return Ok(connection);
+    connection: &mut Connection,
+) -> io::Result<()> {
+    if line.first() == Some(&NAME_MARK) {
+        return output::text(rt, line);
     }
     match hex_lines::decode(line, bytes) {
-        Decoded::Bytes(n) => run_bytes(rt, bytes, n, connection),
-        Decoded::Refused(_) => answers::no_operation(rt, connection),
+        Ok(n) => run_bytes(rt, &bytes[..n], connection),
+        Err(_) => answers::no_operation(rt),
     }
 }
 
-// The input need not end, so the turns are counted down from a number that no run uses up.
+// The input need not end, so the turns are counted by a number that no run uses up.
 fn run(rt: HostRuntime, block: &mut [u8], held: &mut [u8], bytes: &mut [u8]) -> io::Result<()> {
     let mut connection = record::record::fresh();
-    let mut line = input::fresh();
-    let mut turns = u64::MAX;
-    while 0 < turns {
-        turns -= 1;
-        line = input::next(rt, line, block, held)?;
-        if !line.found {
+    let mut input = input::fresh();
+    for _ in 0..u64::MAX {
+        let Some(size) = input::next(rt, &mut input, block, held)? else {
             return Ok(());
-        }
-        let size = line.size;
-        connection = run_line(rt, &held[0..size], bytes, connection)?;
+        };
+        run_line(rt, &held[..size], bytes, &mut connection)?;
         output::line_end(rt)?;
     }
     Ok(())

@@ -1,69 +1,73 @@
-// The operations by their numbers, which are hexadecimal, as everything in a line is. Each writes its answer, and gives the record after it.
-use crate::{answers, by_value, conversation, operands, request_bytes, set, show};
+// The operations by their numbers, which are hexadecimal, as everything in a line is. Each writes its answer.
+use crate::{answers, by_parts, conversation, request_bytes, set, show};
+use console::operands;
 use record::record::Connection;
 use states::answers::Outcome;
 use std::io;
 
-// The last outcome; greater bytes name none.
-const LAST_OUTCOME: u8 = 0x02;
-
-fn outcome_at(operands: &[u8], at: usize) -> Outcome {
+// The outcome that the byte at `at` names, if it names one.
+fn outcome_at(operands: &[u8], at: usize) -> Option<Outcome> {
     match operands::byte_at(operands, at) {
-        0x00 => Outcome::Success,
-        0x01 => Outcome::More,
-        _ => Outcome::Failure,
+        0x00 => Some(Outcome::Success),
+        0x01 => Some(Outcome::More),
+        0x02 => Some(Outcome::Failure),
+        _ => None,
     }
 }
 
-fn arrive(rt: HostRuntime, operands: &[u8], connection: Connection) -> io::Result<Connection> {
+fn arrive(rt: HostRuntime, operands: &[u8], connection: &mut Connection) -> io::Result<()> {
     if operands.len() != request_bytes::size_at(operands, 0) {
-        return answers::no_operation(rt, connection);
+        return answers::no_operation(rt);
     }
-    by_value::arrive(rt, connection, request_bytes::request_at(operands, 0))
+    by_parts::arrive(rt, connection, request_bytes::request_at(operands, 0))
 }
 
-fn report(rt: HostRuntime, operands: &[u8], connection: Connection) -> io::Result<Connection> {
-    if operands.len() != 1 || LAST_OUTCOME < operands::byte_at(operands, 0) {
-        return answers::no_operation(rt, connection);
+fn report(rt: HostRuntime, operands: &[u8], connection: &mut Connection) -> io::Result<()> {
+    match outcome_at(operands, 0) {
+        Some(outcome) if operands.len() == 1 => by_parts::report(rt, connection, outcome),
+        _ => answers::no_operation(rt),
     }
-    by_value::report(rt, connection, outcome_at(operands, 0))
 }
 
 // A conversation on a record of its own. The operands are a request, an outcome, and the same again.
-fn converse(rt: HostRuntime, operands: &[u8], connection: Connection) -> io::Result<Connection> {
+fn converse(rt: HostRuntime, operands: &[u8]) -> io::Result<()> {
     let first_end = request_bytes::size_at(operands, 0);
     let second = first_end + 1;
     let second_end = second + request_bytes::size_at(operands, second);
-    let are_outcomes = operands::byte_at(operands, first_end) <= LAST_OUTCOME
-        && operands::byte_at(operands, second_end) <= LAST_OUTCOME;
-    if operands.len() != second_end + 1 || !are_outcomes {
-        return answers::no_operation(rt, connection);
+    if operands.len() != second_end + 1 {
+        return answers::no_operation(rt);
     }
+    let outcomes = (
+        outcome_at(operands, first_end),
+        outcome_at(operands, second_end),
+    );
+    let (Some(outcome), Some(ending)) = outcomes else {
+        return answers::no_operation(rt);
+    };
     let heard = conversation::hold(
         record::record::fresh(),
         request_bytes::request_at(operands, 0),
-        outcome_at(operands, first_end),
+        outcome,
         request_bytes::request_at(operands, second),
-        outcome_at(operands, second_end),
+        ending,
     );
-    answers::heard(rt, heard)?;
-    Ok(connection)
+    answers::heard(rt, heard)
 }
 
-// Operations 11, 13 and 16 to 18, which have operands.
+// Operations 11, 13 and 16 to 18, which have operands. A match on their numbers: each is another function, and a table of them would be no plainer.
 fn perform_with(
     rt: HostRuntime,
     operation: u8,
     operands: &[u8],
-    connection: Connection,
-) -> io::Result<Connection> {
+    connection: &mut Connection,
+) -> io::Result<()> {
     match operation {
         0x11 => arrive(rt, operands, connection),
         0x13 => report(rt, operands, connection),
         0x16 => set::set(rt, operands, connection),
         0x17 => set::set_place(rt, operands, connection),
-        0x18 => converse(rt, operands, connection),
-        _ => answers::no_operation(rt, connection),
+        0x18 => converse(rt, operands),
+        _ => answers::no_operation(rt),
     }
 }
 
@@ -72,16 +76,16 @@ pub fn perform(
     rt: HostRuntime,
     operation: u8,
     operands: &[u8],
-    connection: Connection,
-) -> io::Result<Connection> {
-    if 0 < operands.len() {
+    connection: &mut Connection,
+) -> io::Result<()> {
+    if !operands.is_empty() {
         return perform_with(rt, operation, operands, connection);
     }
     match operation {
-        0x10 => set::fresh(rt),
-        0x12 => by_value::take(rt, connection),
-        0x14 => by_value::close(rt, connection),
+        0x10 => set::fresh(rt, connection),
+        0x12 => by_parts::take(rt, connection),
+        0x14 => by_parts::close(rt, connection),
         0x15 => show::show(rt, connection),
-        _ => answers::no_operation(rt, connection),
+        _ => answers::no_operation(rt),
     }
 }

@@ -3,47 +3,38 @@
 // places behind these are as a fresh record has them.
 ghost use Rattle.std.specs.Prelude.{◌≤◌};
 
-use crate::{answers, operands, request_bytes, show};
+use crate::operands::{count_at, number_at};
+use crate::{answers, request_bytes};
+use console::operands::{byte_at, signed_at};
 use console::output;
-use record::record::{Connection, Control};
+use record::record::{Connection, Control, Queue};
 use record::{names, ring};
-use states::request;
 use std::io;
 
-pub fn fresh(rt: HostRuntime) -> io::Result<Connection> {
-    output::byte(rt, 0x00)?;
-    Ok(record::record::fresh())
+pub fn fresh(rt: HostRuntime, connection: &mut Connection) -> io::Result<()> {
+    *connection = record::record::fresh();
+    output::byte(rt, 0x00)
 }
 
 // The first four bytes are the state, whether one is in flight, the first place, and how many wait.
 const REQUESTS_AT: usize = 4;
 
 // The first `count` requests go to their places, from the first on; where they end.
-fn place_requests(
-    operands: &[u8],
-    first: usize,
-    count: usize,
-    kinds: &mut [u8; 32],
-    counts: &mut [i64; 32],
-    qids: &mut [i64; 32],
-) -> usize
+fn place_requests(operands: &[u8], first: usize, count: usize, queue: &mut Queue) -> usize
     requires { count ≤ 32 }
     ensures { result ≤ 2000000 }
 {
     let mut from = REQUESTS_AT;
     let mut at = first;
-    let mut left = count;
-    while 0 < left {
+    for _ in 0..count {
         let request = request_bytes::request_at(operands, from);
         let place = at % 32;
-        let n = names::count_of(request);
-        let qid = names::qid_of(request);
-        kinds[place] = request::tag(request);
-        counts[place] = n;
-        qids[place] = qid;
+        let (n, qid) = names::numbers_of(request);
+        queue.kinds[place] = request.tag();
+        queue.counts[place] = n;
+        queue.qids[place] = qid;
         from += request_bytes::size_at(operands, from);
         at = ring::behind(at);
-        left -= 1;
     }
     from
 }
@@ -53,12 +44,8 @@ fn streams_of(operands: &[u8], at: usize, shown: usize) -> [u64; 8]
     requires { (at ≤ 2000001) × (shown ≤ 8) }
 {
     let mut numbers = [0u64; 8];
-    let mut from = at;
-    let mut i: usize = 0;
-    while i < shown {
-        numbers[i] = operands::number_at(operands, from);
-        from += 8;
-        i += 1;
+    for i in 0..shown {
+        numbers[i] = number_at(operands, at + 8 * i);
     }
     numbers
 }
@@ -69,55 +56,41 @@ fn control_of(operands: &[u8], open_at: usize, shown: usize) -> Control
 {
     let next_at = open_at + 1 + 8 * shown;
     Control {
-        state: operands::byte_at(operands, 0),
-        in_flight: operands::byte_at(operands, 1),
-        first: operands::count_at(operands, 2),
-        waiting: operands::count_at(operands, 3),
-        opened: operands::count_at(operands, open_at),
-        next: operands::number_at(operands, next_at),
-        accepted: operands::number_at(operands, next_at + 8),
-        sent: operands::number_at(operands, next_at + 16),
+        state: byte_at(operands, 0),
+        in_flight: byte_at(operands, 1),
+        first: count_at(operands, 2),
+        waiting: count_at(operands, 3),
+        opened: count_at(operands, open_at),
+        next: number_at(operands, next_at),
+        accepted: number_at(operands, next_at + 8),
+        sent: number_at(operands, next_at + 16),
     }
 }
 
-pub fn set(rt: HostRuntime, operands: &[u8], connection: Connection) -> io::Result<Connection> {
-    let mut kinds = [0u8; 32];
-    let mut counts = [0i64; 32];
-    let mut qids = [0i64; 32];
-    let first = operands::count_at(operands, 2);
-    let waiting = show::shown(operands::count_at(operands, 3), 32);
-    let open_at = place_requests(operands, first, waiting, &mut kinds, &mut counts, &mut qids);
-    let open = show::shown(operands::count_at(operands, open_at), 8);
+pub fn set(rt: HostRuntime, operands: &[u8], connection: &mut Connection) -> io::Result<()> {
+    let mut queue = record::record::fresh().queue;
+    let first = count_at(operands, 2);
+    let waiting = count_at(operands, 3).min(32);
+    let open_at = place_requests(operands, first, waiting, &mut queue);
+    let open = count_at(operands, open_at).min(8);
     if operands.len() != open_at + 25 + 8 * open {
-        return answers::no_operation(rt, connection);
+        return answers::no_operation(rt);
     }
-    output::byte(rt, 0x00)?;
-    let control = control_of(operands, open_at, open);
-    let streams = streams_of(operands, open_at + 1, open);
-    Ok(Connection {
-        control: control,
-        streams: streams,
-        kinds: kinds,
-        counts: counts,
-        qids: qids,
-    })
+    *connection = Connection {
+        control: control_of(operands, open_at, open),
+        streams: streams_of(operands, open_at + 1, open),
+        queue,
+    };
+    output::byte(rt, 0x00)
 }
 
-pub fn set_place(
-    rt: HostRuntime,
-    operands: &[u8],
-    connection: Connection,
-) -> io::Result<Connection> {
-    let place = operands::count_at(operands, 0);
+pub fn set_place(rt: HostRuntime, operands: &[u8], connection: &mut Connection) -> io::Result<()> {
+    let place = count_at(operands, 0);
     if operands.len() != 18 || 32 <= place {
-        return answers::no_operation(rt, connection);
+        return answers::no_operation(rt);
     }
-    output::byte(rt, 0x00)?;
-    let n = operands::signed_at(operands, 2);
-    let qid = operands::signed_at(operands, 10);
-    let mut next = connection;
-    next.kinds[place] = operands::byte_at(operands, 1);
-    next.counts[place] = n;
-    next.qids[place] = qid;
-    Ok(next)
+    connection.queue.kinds[place] = byte_at(operands, 1);
+    connection.queue.counts[place] = signed_at(operands, 2);
+    connection.queue.qids[place] = signed_at(operands, 10);
+    output::byte(rt, 0x00)
 }

@@ -16,68 +16,49 @@ ghost use Rattle.std.specs.Prelude.{◌≤◌};
 
 use crate::request_bytes;
 use console::output;
-use record::record::Connection;
+use record::record::{Connection, Queue};
 use record::ring;
 use std::io;
 
-// How many of `count` a record has a place for.
-pub fn shown(count: usize, places: usize) -> usize
-    ensures { result ≤ places }
-{
-    if count < places { count } else { places }
-}
-
 // What stands in `count` places, from the first on.
-fn show_places(
-    rt: HostRuntime,
-    kinds: &[u8; 32],
-    counts: &[i64; 32],
-    qids: &[i64; 32],
-    first: usize,
-    count: usize,
-) -> io::Result<()> {
+fn show_places(rt: HostRuntime, queue: &Queue, first: usize, count: usize) -> io::Result<()> {
     let mut at = first;
-    let mut left = count;
-    while 0 < left {
+    for _ in 0..count {
         let place = at % 32;
-        let kind = kinds[place];
+        let kind = queue.kinds[place];
         output::byte(rt, kind)?;
-        request_bytes::write_numbers(rt, kind, counts[place], qids[place])?;
+        request_bytes::write_numbers(rt, kind, queue.counts[place], queue.qids[place])?;
         at = ring::behind(at);
-        left -= 1;
     }
     Ok(())
 }
 
 // The first `count` open numbers.
-fn show_open(rt: HostRuntime, streams: [u64; 8], count: usize) -> io::Result<()>
+fn show_open(rt: HostRuntime, streams: &[u64; 8], count: usize) -> io::Result<()>
     requires { count ≤ 8 }
 {
-    let mut i: usize = 0;
-    while i < count {
-        output::unsigned(rt, streams[i], 8)?;
-        i += 1;
+    for number in &streams[..count] {
+        output::unsigned(rt, *number, 8)?;
     }
     Ok(())
 }
 
-pub fn show(rt: HostRuntime, connection: Connection) -> io::Result<Connection> {
+pub fn show(rt: HostRuntime, connection: &Connection) -> io::Result<()> {
     let control = connection.control;
-    let streams = connection.streams;
-    let kinds = connection.kinds;
-    let counts = connection.counts;
-    let qids = connection.qids;
-    let waiting = shown(control.waiting, 32);
     output::byte(rt, 0x00)?;
     output::byte(rt, control.state)?;
     output::byte(rt, control.in_flight)?;
     output::size(rt, control.first, 1)?;
     output::size(rt, control.waiting, 1)?;
-    show_places(rt, &kinds, &counts, &qids, control.first, waiting)?;
+    show_places(
+        rt,
+        &connection.queue,
+        control.first,
+        control.waiting.min(32),
+    )?;
     output::size(rt, control.opened, 1)?;
-    show_open(rt, streams, shown(control.opened, 8))?;
+    show_open(rt, &connection.streams, control.opened.min(8))?;
     output::unsigned(rt, control.next, 8)?;
     output::unsigned(rt, control.accepted, 8)?;
-    output::unsigned(rt, control.sent, 8)?;
-    Ok(connection)
+    output::unsigned(rt, control.sent, 8)
 }

@@ -23,7 +23,8 @@ use Rattle.states.specs.Table.{Open, Table, Call, Said, Done, step, accept, enqu
 use Rattle.states.specs.Rules.{first_in_flight, rules, state_rules, counts_rule, numbers_rule, waiting_rule, may_be_in_flight}
 use Rattle.states.specs.Appendix.{hands_over, works, new_state}
 use Rattle.states.specs.Events.{said_by, left_by, run_t, events_t, accepted_by, first}
-use Rattle.states.proofs.Bools.{by-test, and_both, and_left, and_right, not-no}
+use Rattle.std.proofs.lemmas.Bool.{and_from, and_parts, not-true}
+use Rattle.states.proofs.Bools.{by-test}
 use Rattle.states.proofs.Counting.{Awaits, idles, flies, Moved, quiet, spoke, moved, either}
 use Rattle.states.proofs.Invariant.{Keeps, step_keeps, keeps-rules, rules-keep}
 use Rattle.states.proofs.Lists.{take-sets}
@@ -44,7 +45,7 @@ use Rattle.claims.proofs.Line.{Line, line-own, line-none, line-less, line-more}
 pub record Fit (c : Connection) : Type 0 where
   pub sized : Sized c
   pub bounds : Bounds c.control
-  pub names : any unnamed (places_in c.control c.kinds c.counts c.qids) ≡ false
+  pub names : any unnamed (places_in c.control c.queue) ≡ false
   pub keeps : Keeps (kept c)
 
 pub fit-rules : (c : Connection) → Fit c → keeps_rules c ≡ true
@@ -52,15 +53,15 @@ unfolding keeps_rules named
 fit-rules c f =
     let k = c.control in
     let b : Bounds k = f.bounds in
-    and_both _ _ (bounded-by k (le-leb k.state 7 b.state) (le-leb k.in_flight 1 b.flight) (lt-ltb k.first 32 b.first) (le-leb k.waiting 32 b.few) (le-leb k.opened 8 b.fewer))
-    (and_both _ _ (ap not f.names) (keeps-rules (kept c) f.keeps))
+    and_from _ _ (bounded-by k (le-leb k.state 7 b.state) (le-leb k.in_flight 1 b.flight) (lt-ltb k.first 32 b.first) (le-leb k.waiting 32 b.few) (le-leb k.opened 8 b.fewer))
+    (and_from _ _ (ap not f.names) (keeps-rules (kept c) f.keeps))
 
 pub rules-fit : (c : Connection) → Sized c → keeps_rules c ≡ true → Fit c
 unfolding keeps_rules named
 rules-fit c s e = record {
   sized = s;
   bounds = kept-bounds c e;
-  names = not-no _ (and_left (named c) _ (and_right (bounded c.control) _ e));
+  names = not-true _ ((and_parts (named c) _ ((and_parts (bounded c.control) _ e).1)).0);
   keeps = rules-keep (kept c) (kept-rules c e);
 }
 
@@ -86,7 +87,7 @@ flight-most false = omega arith
 
 -- the places, from where the first is after the summaries sent, name those that wait
 abbrev LineOf : Connection → Table → Type 0
-LineOf c t = Line (place_at c.kinds c.counts c.qids) (place c.control.first (t.sent - c.control.sent)) t.waiting
+LineOf c t = Line (place_at c.queue) (place c.control.first (t.sent - c.control.sent)) t.waiting
 
 module _ (c : Connection) (t : Table) (s : Sized c) (k : Keeps t) (l : LineOf c t) where
   kept_put : kept (put c t) ≡ t
@@ -136,7 +137,7 @@ module _ (c : Connection) (f : Fit c) where
   t = kept c
 
   abbrev g : ℕ → Place
-  g = place_at c.kinds c.counts c.qids
+  g = place_at c.queue
 
   abbrev at : ℕ
   at = c.control.first
@@ -187,17 +188,17 @@ module _ (c : Connection) (f : Fit c) where
     -- it is queued, and its numbers stored; or it closes, and none waits
     queues : (s : State) (o : Open) → length t.waiting < 32 → Arrives (returned (record { table = enqueued t s o r; said = T.queued }))
     queues s o short k =
-        let long : length t.waiting ≡ c.control.waiting = size c.control c.streams c.kinds c.counts c.qids in
+        let long : length t.waiting ≡ c.control.waiting = size c.control c.streams c.queue in
         let n = f.sized in
         puts (storing r) (record { table = enqueued t s o r; said = T.queued })
         (record {
           streams = n.streams;
-          kinds = length-set c.kinds (place at c.control.waiting) (tag (kind_of r)) ∙ n.kinds;
-          counts = length-set c.counts (place at c.control.waiting) (count_of r) ∙ n.counts;
-          qids = length-set c.qids (place at c.control.waiting) (qid_of r) ∙ n.qids;
+          kinds = length-set c.queue.kinds (place at c.control.waiting) (tag (kind_of r)) ∙ n.kinds;
+          counts = length-set c.queue.counts (place at c.control.waiting) (count_of r) ∙ n.counts;
+          qids = length-set c.queue.qids (place at c.control.waiting) (qid_of r) ∙ n.qids;
         })
-        (subst (λ (p : ℕ). Line (place_at (stored r c).kinds (stored r c).counts (stored r c).qids) p (t.waiting ++ (r ∷ []))) (same_place t.sent refl)
-        (line-more c.kinds c.counts c.qids at c.control.waiting t.waiting r n.kinds n.counts n.qids f.bounds.first (omega (arith, short, long)) long line))
+        (subst (λ (p : ℕ). Line (place_at (stored r c).queue) p (t.waiting ++ (r ∷ []))) (same_place t.sent refl)
+        (line-more c.queue at c.control.waiting t.waiting r n.kinds n.counts n.qids f.bounds.first (omega (arith, short, long)) long line))
         k
 
     accepts : length t.waiting < 32 → Arrives (returned (accept t r))

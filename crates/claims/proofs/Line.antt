@@ -5,15 +5,16 @@ use mathlib.Core.Bool.{false, not, ◌||◌}
 use mathlib.Core.List.{List, [], ◌∷◌, ◌++◌, map, map-append, tail}
 use Prim.Native.Nat.{ℕ, suc, ◌<◌}
 use native.Mathlib.Numerals.{add-one}
-use lib.IntN.{ℤ}
-use lib.ListN.{length, length-append, length-map, set}
+use lib.ListN.{length, length-append, length-map}
 use Rattle.bolt.specs.Requests.{tag}
 use Rattle.states.specs.declared.request.Request.{Request}
 use Rattle.states.specs.Requests.{kind_of, any}
-use Rattle.states.proofs.Bools.{or_right}
-use Rattle.states.proofs.Lists.{any_append}
+use Rattle.std.proofs.lemmas.Bool.{or_parts}
+use Rattle.std.proofs.lemmas.List.Folds.{list_any-append}
+use Rattle.record.specs.declared.record.Queue.{Queue}
 use Rattle.record.specs.Names.{count_of, qid_of}
 use Rattle.record.specs.Ring.{Place, place, behind, lined, place_at, request_in, unnamed}
+use Rattle.record.specs.Calls.{holding}
 use Rattle.record.proofs.Numbers.{request-of-numbers, tag_names}
 use Rattle.record.proofs.Places.{length-lined, put_last}
 
@@ -35,20 +36,19 @@ module _ (g : ℕ → Place) (at : ℕ) where
 
   -- the first goes
   pub line-less : (r : Request) (ws : List Request) → Line g at (r ∷ ws) → Line g (behind at) ws
-  line-less r ws l = record { read = ap tail l.read; named = or_right (unnamed (g at)) (any unnamed (lined g (behind at) (length ws))) l.named }
+  line-less r ws l = record { read = ap tail l.read; named = (or_parts (unnamed (g at)) (any unnamed (lined g (behind at) (length ws))) l.named).1 }
 
 -- one more comes, and its numbers are stored behind the last
-pub line-more : (kinds : List ℕ) (counts qids : List ℤ) (at w : ℕ) (ws : List Request) (r : Request) → length kinds ≡ 32 → length counts ≡ 32 → length qids ≡ 32 → at < 32 → w < 32 → length ws ≡ w
-    → Line (place_at kinds counts qids) at ws
-    → Line (place_at (set kinds (place at w) (tag (kind_of r))) (set counts (place at w) (count_of r)) (set qids (place at w) (qid_of r))) at (ws ++ (r ∷ []))
-line-more kinds counts qids at w ws r a b c h m e l =
-    let g : ℕ → Place = place_at kinds counts qids in
-    let g' : ℕ → Place = place_at (set kinds (place at w) (tag (kind_of r))) (set counts (place at w) (count_of r)) (set qids (place at w) (qid_of r)) in
+pub line-more : (queue : Queue) (at w : ℕ) (ws : List Request) (r : Request) → length queue.kinds ≡ 32 → length queue.counts ≡ 32 → length queue.qids ≡ 32 → at < 32 → w < 32 → length ws ≡ w
+    → Line (place_at queue) at ws → Line (place_at (holding r (place at w) queue)) at (ws ++ (r ∷ []))
+line-more queue at w ws r a b c h m e l =
+    let g : ℕ → Place = place_at queue in
+    let g' : ℕ → Place = place_at (holding r (place at w) queue) in
     let p : Place = record { kind = tag (kind_of r); n = count_of r; qid = qid_of r } in
     let long : length (ws ++ (r ∷ [])) ≡ suc w = length-append ws (r ∷ []) ∙ add-one (length ws) ∙ ap suc e in
     let all : lined g' at (length (ws ++ (r ∷ []))) ≡ lined g at (length ws) ++ (p ∷ []) =
-    ap (lined g' at) long ∙ put_last kinds counts qids (tag (kind_of r)) (count_of r) (qid_of r) at w a b c h m ∙ ap (λ (n : ℕ). lined g at n ++ (p ∷ [])) (sym e) in
+    ap (lined g' at) long ∙ put_last queue (tag (kind_of r)) (count_of r) (qid_of r) at w a b c h m ∙ ap (λ (n : ℕ). lined g at n ++ (p ∷ [])) (sym e) in
     record {
       read = ap (map request_in) all ∙ map-append request_in (lined g at (length ws)) (p ∷ []) ∙ (λ i. l.read i ++ (request-of-numbers r i ∷ []));
-      named = ap (any unnamed) all ∙ any_append unnamed (lined g at (length ws)) (p ∷ []) ∙ (λ i. l.named i || (not (tag_names r i) || false));
+      named = ap (any unnamed) all ∙ list_any-append unnamed (lined g at (length ws)) (p ∷ []) ∙ (λ i. l.named i || (not (tag_names r i) || false));
     }

@@ -46,15 +46,15 @@ pub record Checked (c : Connection) (call : Call) : Type 0 where
 -- arrays as long as their types say
 pub record Sized (c : Connection) : Type 0 where
   pub streams : length c.streams ≡ 8
-  pub kinds : length c.kinds ≡ 32
-  pub counts : length c.counts ≡ 32
-  pub qids : length c.qids ≡ 32
+  pub kinds : length c.queue.kinds ≡ 32
+  pub counts : length c.queue.counts ≡ 32
+  pub qids : length c.queue.qids ≡ 32
 
 -- two records that differ at most in places in which no request waits, and in numbers of streams that are not open
 pub record Alike (c d : Connection) : Type 0 where
   pub control : c.control ≡ d.control
   pub streams : take c.control.opened c.streams ≡ take d.control.opened d.streams
-  pub places : places_in c.control c.kinds c.counts c.qids ≡ places_in d.control d.kinds d.counts d.qids
+  pub places : places_in c.control c.queue ≡ places_in d.control d.queue
 
 -- affects no answer, and nothing that is kept
 pub record Unused (c d : Connection) (calls : List Call) : Type 0 where

@@ -1,5 +1,4 @@
 // Standard output: bytes and numbers as upper-case hexadecimal digits, two a byte, and text as it stands.
-use hex_lines::Encoded;
 use std::io;
 
 // How many bytes are written at a time.
@@ -13,36 +12,19 @@ pub fn line_end(rt: HostRuntime) -> io::Result<()> {
     text(rt, b"\n")
 }
 
-// At most a piece.
-fn piece(rt: HostRuntime, bytes: &[u8]) -> io::Result<()> {
-    let mut digits = [0u8; 2 * PIECE];
-    if let Encoded::Characters(n) = hex_lines::encode(bytes, &mut digits) {
-        if n <= digits.len() {
-            text(rt, &digits[0..n])?;
-        }
-    }
-    Ok(())
-}
-
 pub fn bytes(rt: HostRuntime, bytes: &[u8]) -> io::Result<()> {
-    let mut i = 0;
-    while i < bytes.len() {
-        if bytes.len() - i < PIECE {
-            return piece(rt, &bytes[i..]);
+    let mut digits = [0u8; 2 * PIECE];
+    for piece in bytes.chunks(PIECE) {
+        if let Ok(n) = hex_lines::encode(piece, &mut digits) {
+            text(rt, &digits[..n])?;
         }
-        let end = i + PIECE;
-        piece(rt, &bytes[i..end])?;
-        i = end;
     }
     Ok(())
 }
 
 // The first `size` bytes, or all where there are fewer.
 pub fn front(rt: HostRuntime, all: &[u8], size: usize) -> io::Result<()> {
-    if size < all.len() {
-        return bytes(rt, &all[0..size]);
-    }
-    bytes(rt, all)
+    bytes(rt, &all[..size.min(all.len())])
 }
 
 pub fn byte(rt: HostRuntime, b: u8) -> io::Result<()> {
@@ -51,13 +33,7 @@ pub fn byte(rt: HostRuntime, b: u8) -> io::Result<()> {
 
 // The lowest `width` bytes of a number, at most eight, the highest first.
 pub fn unsigned(rt: HostRuntime, number: u64, width: usize) -> io::Result<()> {
-    let mut all = [0u8; 8];
-    numbers::write_unsigned(&mut all, 0, 8, number);
-    if width < 8 {
-        let start = 8 - width;
-        return bytes(rt, &all[start..]);
-    }
-    bytes(rt, &all)
+    bytes(rt, &number.to_be_bytes()[8 - width.min(8)..])
 }
 
 // The same for places, sizes and counts.
@@ -67,7 +43,5 @@ pub fn size(rt: HostRuntime, size: usize, width: usize) -> io::Result<()> {
 
 // An integer in eight bytes, in two's complement.
 pub fn signed(rt: HostRuntime, number: i64) -> io::Result<()> {
-    let mut all = [0u8; 8];
-    numbers::write_signed(&mut all, 0, 8, number);
-    bytes(rt, &all)
+    bytes(rt, &number.to_be_bytes())
 }

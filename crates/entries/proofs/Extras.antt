@@ -1,13 +1,11 @@
--- Laws of the extras: a known name's entry by its number, and one check after the other. Assumes nothing.
-use mathlib.Core.Path.{◌≡◌, refl, sym, ap, ◌∙◌}
+-- A known name's entry, by its number. Assumes nothing.
+use mathlib.Core.Path.{◌≡◌, refl, sym, ap}
 use mathlib.Core.Bool.{Bool, true, false, cond}
 use mathlib.Core.List.{List}
 use Prim.Native.Nat.{ℕ, ◌<◌}
 use lib.ListN.{get_or}
-use Rattle.refusal.specs.Answer.{Answer}
+use Rattle.std.specs.Prelude.{Option, None}
 use Rattle.entries.specs.Numbering.{name_of}
-use Rattle.entries.specs.Lookup.{absent}
-use Rattle.entries.specs.View.{seen}
 use Rattle.entries.specs.Walk.{entry_at, entry_in}
 use Rattle.entries.specs.declared.view.Entry.{Entry}
 use Rattle.entries.proofs.Naming.{index-of-name}
@@ -17,11 +15,6 @@ pub entry-is : (s found : List ℕ) (k : ℕ) → k < 12 → entry_at s (get_or 
 entry-is s found k h = ap (λ (j : ℕ). entry_at s (get_or found j 0)) (sym (index-of-name k h))
 
 -- a name that is not known yet has no entry
-pub entry-since : (s : List ℕ) (b : Bool) (place : ℕ) (e : Entry) → entry_at s place ≡ e → entry_at s (cond b place 0) ≡ cond b e (seen absent)
+pub entry-since : (s : List ℕ) (b : Bool) (place : ℕ) (e : Option Entry) → entry_at s place ≡ e → entry_at s (cond b place 0) ≡ cond b e None
 entry-since s true place e f = f
 entry-since s false place e f = refl
-
--- a check r of an entry e, taken apart
-pub checked : {A R : Type 0} (told : R → Answer A) (check : Entry → Answer A) {r r' : R} {e e' : Entry} → told r ≡ check e → e ≡ e' → r ≡ r'
-    → check e' ≡ told r'
-checked told check p q g = ap check (sym q) ∙ sym p ∙ ap told g

@@ -19,9 +19,10 @@ use Rattle.values.proofs.Steps.{FirstEntry, first_entry_lem, entries-count}
 use Rattle.values.proofs.Placement.{placement, entries-lie}
 use Rattle.entries.specs.Numbering.{names, name_of, index_of}
 use Rattle.entries.specs.Lookup.{held, under}
-use Rattle.entries.specs.View.{span, seen}
+use Rattle.std.specs.Prelude.{option_map}
+use Rattle.markers.specs.Extents.{span}
+use Rattle.entries.specs.View.{entry_of, seen}
 use Rattle.entries.specs.Walk.{string_found, note, noted_from, nothing, entry_at, entry_in}
-use Rattle.entries.specs.declared.view.View.{View}
 use Rattle.entries.proofs.Naming.{index-of-name, name-of-index}
 use Rattle.entries.proofs.Peeking.{string-within}
 use Rattle.entries.proofs.Trees.{view-there}
@@ -47,9 +48,9 @@ module _ (s : List ℕ) (f : ℕ → Parse Value) where
     where
       by : {g : Parse KeyText} → KeyTells s before at g → g ≡ parsed x q → repeats x.content before ≡ false
       by (Keys.none why place) g = let z : ◌≡◌ {A = ℕ} 0 1 = cc g in absurd (omega arith)
-      by (Keys.new j p n y u r) g =
-          let a : ◌≡◌ {A = KeyText} (record { start = p; content = part s p n }) x = cc g in
-          subst (λ (k : KeyText). repeats k.content before ≡ false) a r
+      by (Keys.new k j u r) g =
+          let a : ◌≡◌ {A = KeyText} (record { start = k.start; content = part s k.start k.size }) x = cc g in
+          subst (λ (y : KeyText). repeats y.content before ≡ false) a r
 
   -- a name that was seen does not come again
   pub seen-once : (name : List ℕ) (n : ℕ) (before : List (List ℕ)) (at : ℕ) (es : Entries) (end : ℕ) → entries s f before n at ≡ parsed es end
@@ -123,7 +124,7 @@ module _ (s : List ℕ) (d : ℕ) (shallow : d ≤ most_open) where
           omega (arith, w.past, lie.1.content.ends)
 
       here : entry_at s after ≡ seen (held after v)
-      here = ap (λ (w : View). record { place = after; view = w }) (rw (ne_eqb after 0 past) (view-there s d shallow after v lie.2 lie.3))
+      here = ap (option_map (entry_of after)) (rw (ne_eqb after 0 past) (view-there s d shallow after v lie.2 lie.3))
 
       by : (t : Bool) → entry_at s (place_of es name 0) ≡ seen (under es name) → entry_at s (cond t after (place_of es name 0)) ≡ seen (cond t (held after v) (under es name))
       by true later = here

@@ -15,7 +15,11 @@ use Rattle.slices.proofs.Below.{below}
 use Rattle.slices.specs.Equality.{same}
 use Rattle.markers.proofs.Markers.{tabulate, agree}
 use Rattle.slices.proofs.Equality.{same_length}
-use Rattle.entries.specs.Numbering.{names, name_of, index_of}
+use denote.Enum.Declared.{tag_of}
+use Rattle.entries.specs.Numbering.{names, name_of, index_of, text_of}
+use Rattle.entries.specs.contracts.names.Name.{the_type}
+use Rattle.entries.specs.declared.names.Name.{Name}
+use Rattle.entries.specs.declared.names.Name.TheVariants as N
 
 -- ---- the bytes of the names
 -- all of them, a space behind each
@@ -66,6 +70,21 @@ number_bound number key e = omega (arith, index-bound key names)
 pub index-of-name : (k : ℕ) → k < 12 → index_of (name_of k) names ≡ k
 unfolding tabulate index_of same
 index-of-name k h = agree (λ j. index_of (name_of j) names) (λ j. j) 12 refl k h
+
+-- the names that the code knows, by the numbers that it gives them
+pub index-of-text : (name : Name) → index_of (text_of name) names ≡ tag_of the_type name
+index-of-text N.UserAgent = index-of-name 0 (omega arith)
+index-of-text N.Scheme = index-of-name 1 (omega arith)
+index-of-text N.Principal = index-of-name 2 (omega arith)
+index-of-text N.Credentials = index-of-name 3 (omega arith)
+index-of-text N.Routing = index-of-name 4 (omega arith)
+index-of-text N.Bookmarks = index-of-name 5 (omega arith)
+index-of-text N.TxTimeout = index-of-name 6 (omega arith)
+index-of-text N.TxMetadata = index-of-name 7 (omega arith)
+index-of-text N.Mode = index-of-name 8 (omega arith)
+index-of-text N.Db = index-of-name 9 (omega arith)
+index-of-text N.N = index-of-name 10 (omega arith)
+index-of-text N.Qid = index-of-name 11 (omega arith)
 
 -- a key with the number of a name is that name
 pub name-of-index : (key : List ℕ) (ks : List (List ℕ)) → index_of key ks < length ks → same key (get_or ks (index_of key ks) []) ≡ true

@@ -11,25 +11,25 @@ use Rattle.values.specs.Reading.{head_of}
 use Rattle.values.specs.Walk.{peek_at}
 use Rattle.values.specs.Private.Placement.{Reads, ItemsLie, PartsLie}
 use Rattle.values.proofs.Placement.{placement}
-use Rattle.entries.specs.View.{span, is_string, wrong_in, mode_named, view_of}
-use Rattle.entries.specs.Walk.{string_head, string_found, on_text, wrong_from, view_head, view_found}
-use Rattle.entries.specs.declared.view.Text.{Text}
-use Rattle.entries.specs.declared.view.Text.TheVariants as T
-use Rattle.entries.specs.declared.view.Place.{Place}
-use Rattle.entries.specs.declared.view.Place.TheVariants as P
+use Rattle.entries.specs.View.{is_string, wrong_in, mode_named, view_of}
+use Rattle.entries.specs.Walk.{string_head, string_found, wrong_from, view_head}
+use Rattle.std.specs.Prelude.{Option, Some, None, option_and_then}
+use Rattle.std.specs.Option.{option_map_or}
+use Rattle.markers.specs.Extents.{span}
+use Rattle.markers.specs.declared.extent.Span.{Span}
 use Rattle.entries.specs.declared.view.View.TheVariants as As
 
 -- the content of a String
-abbrev pub text_of : Value → Text
-text_of null = T.Absent
-text_of (boolean b) = T.Absent
-text_of (integer z) = T.Absent
-text_of (float bits) = T.Absent
-text_of (bytes start content) = T.Absent
-text_of (string start content) = T.At (span start (length content))
-text_of (list vs) = T.Absent
-text_of (dictionary es) = T.Absent
-text_of (structure tag vs) = T.Absent
+abbrev pub text_of : Value → Option Span
+text_of null = None
+text_of (boolean b) = None
+text_of (integer z) = None
+text_of (float bits) = None
+text_of (bytes start content) = None
+text_of (string start content) = Some (span start (length content))
+text_of (list vs) = None
+text_of (dictionary es) = None
+text_of (structure tag vs) = None
 
 text-of-head : (v : Value) (end : ℕ) → string_head (head_of v end) ≡ text_of v
 unfolding head_of
@@ -49,8 +49,8 @@ module _ (s : List ℕ) (d : ℕ) (shallow : d ≤ most_open) where
 
   -- ---- Lists of Strings
   -- past a String, or at what is none
-  step : (at : ℕ) (v : Value) (end : ℕ) (f : ℕ → Place) → PartsLie s d v end
-      → on_text (text_of v) (P.At at) (λ c. f (c.start + c.size)) ≡ cond (is_string v) (f end) (P.At at)
+  step : (at : ℕ) (v : Value) (end : ℕ) (f : ℕ → Option ℕ) → PartsLie s d v end
+      → option_map_or (λ c. f (c.start + c.size)) (text_of v) (Some at) ≡ cond (is_string v) (f end) (Some at)
   step at null end f p = refl
   step at (boolean b) end f p = refl
   step at (integer z) end f p = refl
@@ -68,7 +68,7 @@ module _ (s : List ℕ) (d : ℕ) (shallow : d ≤ most_open) where
       let next = lie.1 in
       let r = lie.2 in
       let here = placement s d at shallow v next r in
-      ap (λ (t : Text). on_text t (P.At at) (λ c. wrong_from s (count vs) (c.start + c.size))) (text-there at v next r)
+      ap (λ (t : Option Span). option_map_or (λ c. wrong_from s (count vs) (c.start + c.size)) t (Some at)) (text-there at v next r)
       ∙ step at v next (wrong_from s (count vs)) here.parts
       ∙ rw (wrong-there vs next end lie.3, lie.0)
 
@@ -81,12 +81,12 @@ module _ (s : List ℕ) (d : ℕ) (shallow : d ≤ most_open) where
   view-of-head (integer z) end p = refl
   view-of-head (float bits) end p = refl
   view-of-head (bytes start content) end p = refl
-  view-of-head (string start content) end p = ap (λ (c : List ℕ). As.String (span start (length content)) (mode_named c)) p.bytes
-  view-of-head (list vs) end p = ap As.List (wrong-there s (d - 1) (omega arith) vs (first vs end) end p)
+  view-of-head (string start content) end p = ap (λ (c : List ℕ). Some (As.String (span start (length content)) (mode_named c))) p.bytes
+  view-of-head (list vs) end p = ap (λ (w : Option ℕ). Some (As.List w)) (wrong-there s (d - 1) (omega arith) vs (first vs end) end p)
   view-of-head (dictionary es) end p = refl
   view-of-head (structure tag vs) end p = refl
 
-  pub view-there : (at : ℕ) (v : Value) (end : ℕ) → Reads s d at v end → view_found s (peek_at s at) ≡ view_of v
+  pub view-there : (at : ℕ) (v : Value) (end : ℕ) → Reads s d at v end → option_and_then (view_head s) (peek_at s at) ≡ view_of v
   view-there at v end r =
       let here = placement s d at shallow v end r in
-      ap (view_found s) (sym here.peeked) ∙ view-of-head v end here.parts
+      ap (option_and_then (view_head s)) (sym here.peeked) ∙ view-of-head v end here.parts

@@ -1,9 +1,11 @@
 // Which of the known names a key is: it is compared with the names of its own size.
-ghost use Rattle.std.specs.Prelude.{◌≡◌, ◌+◌, ◌≤◌, ◌<◌, length};
+ghost use Rattle.std.specs.Prelude.{◌≡◌, ◌+◌, ◌≤◌, ◌<◌, length, unwrap_or};
 ghost use Rattle.slices.specs.Parts.{part};
 ghost use Rattle.slices.specs.Equality.{same};
 ghost use Rattle.entries.specs.Numbering.{names, name_of, index_of};
 
+// The names in one text, and tables of places in it: a `match` over byte strings and `position` over an array of them were tried, and their proofs
+// did not close.
 const NAMES: [u8; 95] =
     *b"user_agent scheme principal credentials routing bookmarks tx_timeout tx_metadata mode db n qid ";
 
@@ -22,30 +24,24 @@ fn is_name(message: &[u8], start: usize, size: usize, number: usize) -> bool
     ensures { result ≡ same (part message.now start size) (name_of number) }
 {
     let at = STARTS[number];
-    let mut i = 0;
-    while i < size {
-        if message[start + i] != NAMES[at + i] {
-            return false;
-        }
-        i += 1;
-    }
-    true
+    message[start..start + size] == NAMES[at..at + size]
 }
 
-// The number of the name that the `size` bytes from `start` on are; 12 where they are none.
-pub fn number_of(message: &[u8], start: usize, size: usize) -> usize
+// The number of the name that the `size` bytes from `start` on are, if they are one.
+pub fn number_of(message: &[u8], start: usize, size: usize) -> Option<usize>
     requires { start + size ≤ length message.now }
-    ensures { result ≡ index_of (part message.now start size) names }
+    ensures { unwrap_or result 12 ≡ index_of (part message.now start size) names }
 {
     if 11 < size {
-        return 12;
+        return None;
     }
     let mut k = FIRST[size];
+    // A while loop: it follows the chain of the names of one size, and no iterator says that more plainly.
     while k < 12 {
         if is_name(message, start, size, k) {
-            return k;
+            return Some(k);
         }
         k = NEXT[k];
     }
-    12
+    None
 }

@@ -1,11 +1,8 @@
 -- A message written in chunks: document 01, "Frames", second paragraph, and refusals 22, 6, 21. Assumes nothing.
 use Rattle.std.specs.Prelude.{ℕ, zero, suc, ◌/◌, cond, ◌||◌, List, [], ◌∷◌, ◌++◌, ltb, eqb, length, take, drop}
 use Rattle.numbers.specs.BigEndian.{bytes_of}
-use Rattle.refusal.specs.Numbers.{number_of}
 use Rattle.refusal.specs.Answer.{Answer, returned, refused}
 use Rattle.bolt.specs.Limits.{most_bytes}
-use Rattle.framing.specs.declared.writer.Written.{Written}
-use Rattle.framing.specs.declared.writer.Written.TheVariants.{Bytes, Refused}
 
 -- a big-endian 16-bit size, and that many bytes
 abbrev pub chunk_of : List ℕ → List ℕ
@@ -36,8 +33,3 @@ writing c room m =
     (cond (ltb most_bytes (length m)) (refused 6 0)
     (cond (ltb room (length (chunked c m))) (refused 21 0)
     (returned (chunked c m))))
-
--- the code's answer in the paper's terms
-abbrev pub told : Written → Answer ℕ
-told (Bytes n) = returned n
-told (Refused why) = refused (number_of why) 0

@@ -1,11 +1,10 @@
 -- One frame read from a whole input: document 01, "Frames", and refusals 4, 5, 6, 21. Assumes nothing.
 use Rattle.std.specs.Prelude.{ℕ, Bool, List, length}
 use Rattle.slices.specs.Parts.{front}
-use Rattle.refusal.specs.Numbers.{number_of}
 use Rattle.refusal.specs.Answer.{Answer, returned, refused}
 use Rattle.framing.specs.Feed.{Reading, message, keep-alive, Progress, done, waits, start, feed}
 use Rattle.framing.specs.declared.reader.Frame.{Frame}
-use Rattle.framing.specs.declared.reader.Frame.TheVariants.{Message, KeepAlive, Refused}
+use Rattle.framing.specs.declared.reader.Frame.TheVariants.{Message, KeepAlive}
 
 -- what still waits when the input is over is incomplete
 abbrev pub closed : Progress → Answer Reading
@@ -31,11 +30,10 @@ telling (returned (message m used)) = returned (message-of (length m) used)
 telling (returned (keep-alive used)) = returned (keep-alive-of used)
 telling (refused number place) = refused number place
 
--- the code's answer in the paper's terms
-abbrev pub told : Frame → Answer Told
-told (Message size used) = returned (message-of size used)
-told KeepAlive = returned (keep-alive-of 2)
-told (Refused why) = refused (number_of why) 0
+-- the code's frame in these terms
+abbrev pub told_frame : Frame → Told
+told_frame (Message size used) = message-of size used
+told_frame KeepAlive = keep-alive-of 2
 
 -- what a reading leaves in the lent buffer: the message in front, its rest unchanged
 abbrev pub leaves : Reading → List ℕ → List ℕ

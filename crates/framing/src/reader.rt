@@ -3,8 +3,8 @@ ghost use Rattle.std.specs.Prelude.{◌≡◌, List, ℕ, ◌+◌, ◌≤◌, �
 ghost use Rattle.slices.specs.Parts.{part};
 ghost use Rattle.numbers.specs.BigEndian.{big_endian};
 ghost use Rattle.handshake.specs.Version.{keeps_alive};
-ghost use Rattle.refusal.specs.Answer.{left};
-ghost use Rattle.framing.specs.Reading.{frame_of, telling, told, leaves};
+ghost use Rattle.refusal.specs.Answer.{told, mapped, left};
+ghost use Rattle.framing.specs.Reading.{frame_of, telling, told_frame, leaves};
 ghost use Rattle.framing.specs.Private.Copying.{IsMessage};
 
 use bolt::MOST_BYTES;
@@ -12,13 +12,12 @@ use handshake::version::Version;
 use refusal::Refusal;
 
 // What stands at the front of the input.
-#[derive(Clone, Copy)]
+#[derive(Clone, Copy, Debug, PartialEq, Eq)]
 pub enum Frame {
     // A message of `length` bytes, now in front of the lent buffer; it took `consumed` bytes of the input.
     Message { length: usize, consumed: usize },
     // An empty message, where the version has keep-alives: nothing arrives. It took two bytes.
     KeepAlive,
-    Refused(Refusal),
 }
 
 // The size that the chunk header at `at` names.
@@ -30,43 +29,43 @@ fn size_at(input: &[u8], at: usize) -> usize
 }
 
 // What stands at the front of `input`, for a buffer of `room` bytes: headers only. Chunks of one size are passed in an inner loop,
-// so that no load decides where the next header lies.
-fn scan(keep_alive: bool, input: &[u8], room: usize) -> Frame
-    ensures { told result ≡ telling (frame_of keep_alive room input.now) }
+// so that no load decides where the next header lies. A `for` or an iterator is no plainer: each header says where the next one lies.
+fn scan(keep_alive: bool, input: &[u8], room: usize) -> Result<Frame, Refusal>
+    ensures { mapped told_frame (told result) ≡ telling (frame_of keep_alive room input.now) }
 {
     let mut at: usize = 0;
     let mut sum: usize = 0;
     loop {
         if input.len() - at < 2 {
-            return Frame::Refused(Refusal::FrameIncomplete);
+            return Err(Refusal::FrameIncomplete);
         }
         let size = size_at(input, at);
         if size == 0 {
             if 0 < sum {
-                return Frame::Message {
+                return Ok(Frame::Message {
                     length: sum,
                     consumed: at + 2,
-                };
+                });
             }
             if keep_alive {
-                return Frame::KeepAlive;
+                return Ok(Frame::KeepAlive);
             }
-            return Frame::Refused(Refusal::EmptyMessage);
+            return Err(Refusal::EmptyMessage);
         }
         loop {
             if MOST_BYTES < sum + size {
-                return Frame::Refused(Refusal::TooLong);
+                return Err(Refusal::TooLong);
             }
             if room < sum + size {
-                return Frame::Refused(Refusal::NoRoom);
+                return Err(Refusal::NoRoom);
             }
             if input.len() - at - 2 < size {
-                return Frame::Refused(Refusal::FrameIncomplete);
+                return Err(Refusal::FrameIncomplete);
             }
             sum += size;
             at += size + 2;
             if input.len() - at < 2 {
-                return Frame::Refused(Refusal::FrameIncomplete);
+                return Err(Refusal::FrameIncomplete);
             }
             if size_at(input, at) != size {
                 break;
@@ -101,21 +100,14 @@ fn copy_message(keep_alive: bool, input: &[u8], buffer: &mut [u8])
 // Reads the frame at the front of `input`: a message goes to the front of `buffer`, whose rest stays as it is. Refuses with 6 at the
 // first header that takes the message over 16,384 bytes, with 21 at the first that takes it over the buffer, with 5 where the version
 // has no keep-alives and the message is empty, and with 4 where the frame is incomplete: the caller then waits for more.
-pub fn read_frame(version: Version, input: &[u8], buffer: &mut [u8]) -> Frame
-    ensures answer { told result ≡ telling (frame_of (keeps_alive version.minor) (length buffer.old) input.now) }
+pub fn read_frame(version: Version, input: &[u8], buffer: &mut [u8]) -> Result<Frame, Refusal>
+    ensures answer { mapped told_frame (told result) ≡ telling (frame_of (keeps_alive version.minor) (length buffer.old) input.now) }
     ensures filled { buffer.new ≡ left leaves (frame_of (keeps_alive version.minor) (length buffer.old) input.now) buffer.old }
 {
     let keep_alive = version.allows_keep_alive();
-    let found = scan(keep_alive, input, buffer.len());
-    match found {
-        Frame::Message {
-            length: _,
-            consumed: _,
-        } => {
-            copy_message(keep_alive, input, buffer);
-            found
-        }
-        Frame::KeepAlive => found,
-        Frame::Refused(_) => found,
+    let frame = scan(keep_alive, input, buffer.len())?;
+    if let Frame::Message { .. } = frame {
+        copy_message(keep_alive, input, buffer);
     }
+    Ok(frame)
 }

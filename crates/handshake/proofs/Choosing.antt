@@ -1,14 +1,14 @@
 -- The preamble byte by byte, and the choice proposal by proposal. Assumes nothing.
-use mathlib.Core.Path.{◌≡◌, refl}
-use mathlib.Core.Bool.{true, cond, ◌&&◌}
+use mathlib.Core.Path.{◌≡◌, refl, ap}
+use mathlib.Core.Bool.{Bool, cond, ◌&&◌}
 use mathlib.Core.List.{List, [], ◌∷◌}
-use mathlib.Core.Option.{Option, none, some}
-use Prim.Native.Nat.{ℕ, zero, suc, ◌+◌, ◌-◌, ◌*◌, ◌<◌, ◌≤◌}
+use Rattle.std.specs.Prelude.{Option, None, Some, min}
+use Prim.Native.Nat.{ℕ, zero, suc, ◌+◌, ◌-◌, ◌*◌, ◌<◌}
 use native.Mathlib.Omega.{arith}
-use native.Mathlib.Numerals.{add-one}
 use lib.Dec.{ltb, eqb}
-use lib.ListN.{length, get_or, take, drop, drop_of_length-le}
-use lib.Seq.{drop-cons, drop-drop}
+use lib.ListN.{length, take, drop}
+use lib.Seq.{take-nil, drop-drop}
+use Rattle.std.specs.List.{starts_with}
 use Rattle.slices.specs.Parts.{part}
 use Rattle.refusal.specs.Answer.{Answer, refused, Placed}
 use Rattle.refusal.proofs.Answer.{placed-cond}
@@ -16,25 +16,14 @@ use Rattle.handshake.specs.Version.{proposed}
 use Rattle.handshake.specs.Negotiation.{preamble, agrees, or_else, chosen, negotiated}
 use Rattle.handshake.specs.Places.{Claim}
 
--- a byte of each more
-pub agrees-next : (p s : List ℕ) (i : ℕ) → i < length p → i < length s
-    → agrees (drop i p) (drop i s) ≡ (eqb (get_or s i 0) (get_or p i 0) && agrees (drop (i + 1) p) (drop (i + 1) s))
+-- the bytes of the preamble that are there begin it, or one of them is wrong
+pub agrees-prefix : (p s : List ℕ) → starts_with eqb p (take (min (length s) (length p)) s) ≡ agrees p s
 unfolding agrees
-agrees-next p s i hp hs = rw (add-one, drop-cons p i 0 hp, drop-cons s i 0 hs) refl
-
-agrees-nil : (p : List ℕ) → agrees p [] ≡ true
-unfolding agrees
-agrees-nil [] = refl
-agrees-nil (a ∷ p) = refl
-
--- past the bytes that are there nothing is wrong
-pub agrees-short : (p s : List ℕ) (i : ℕ) → length s ≤ i → agrees (drop i p) (drop i s) ≡ true
-agrees-short p s i h = rw (drop_of_length-le s h) (agrees-nil (drop i p))
-
--- past the preamble nothing is wrong
-pub agrees-whole : (p s : List ℕ) (i : ℕ) → length p ≤ i → agrees (drop i p) (drop i s) ≡ true
-unfolding agrees
-agrees-whole p s i h = rw (drop_of_length-le p h) refl
+agrees-prefix [] s = let e : min (length s) 0 ≡ 0 = omega arith in rw e refl
+agrees-prefix (a ∷ p) [] = rw (take-nil {A = ℕ} (min 0 (suc (length p)))) refl
+agrees-prefix (a ∷ p) (b ∷ s) =
+    let e : min (suc (length s)) (suc (length p)) ≡ suc (min (length s) (length p)) = omega arith in
+    rw e (ap (λ (t : Bool). eqb b a && t) (agrees-prefix p s))
 
 -- proposal k of four, and those after it
 pub chosen-next : (s : List ℕ) (k : ℕ) → k < 4
@@ -47,8 +36,8 @@ chosen-next s k h =
 
 -- ---- every refusal of the handshake is at place 0
 or_else-placed : (p : Option ℕ) (a : Answer ℕ) → Placed a → Placed (or_else p a)
-or_else-placed (some minor) a h = tt
-or_else-placed none a h = h
+or_else-placed (Some minor) a h = tt
+or_else-placed None a h = h
 
 chosen-placed : (n : ℕ) (s : List ℕ) → Placed (chosen n s)
 unfolding chosen

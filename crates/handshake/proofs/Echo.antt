@@ -2,7 +2,7 @@
 use mathlib.Core.Path.{◌≡◌, refl, sym, ap, ◌∙◌}
 use mathlib.Core.Bool.{Bool, true, false, cond, ◌||◌}
 use mathlib.Core.List.{List, [], ◌∷◌}
-use mathlib.Core.Option.{none, some}
+use Rattle.std.specs.Prelude.{None, Some}
 use Prim.Native.Nat.{ℕ, ◌+◌, ◌-◌, ◌*◌, ◌<◌}
 use native.Mathlib.Omega.{arith}
 use lib.Dec.{ltb}
@@ -25,28 +25,28 @@ no_result e = clash (cc)
 
 module _ (minor : ℕ) where
   -- a proposal that is known is the one echoed, else the first of those after it is
-  echo-one : (p : List ℕ) (ps : List (List ℕ)) (later : Answer ℕ) → (later ≡ returned minor → first_known ps ≡ some (bytes_of minor)) → or_else (proposed p) later ≡ returned minor
-      → first_known (p ∷ ps) ≡ some (bytes_of minor)
+  echo-one : (p : List ℕ) (ps : List (List ℕ)) (later : Answer ℕ) → (later ≡ returned minor → first_known ps ≡ Some (bytes_of minor)) → or_else (proposed p) later ≡ returned minor
+      → first_known (p ∷ ps) ≡ Some (bytes_of minor)
   unfolding among
   echo-one p ps later rest e = by (same p (bytes_of 0)) (same p (bytes_of 1)) (same p (bytes_of 2)) (same-equal p (bytes_of 0)) (same-equal p (bytes_of 1)) (same-equal p (bytes_of 2)) e
     where
       -- a proposal with the bytes of a version that is agreed on
-      same_bytes : (n : ℕ) → p ≡ bytes_of n → returned n ≡ returned minor → some p ≡ some (bytes_of minor)
-      same_bytes n q h = let m : n ≡ minor = cc in ap some (q ∙ ap bytes_of m)
+      same_bytes : (n : ℕ) → p ≡ bytes_of n → returned n ≡ returned minor → Some p ≡ Some (bytes_of minor)
+      same_bytes n q h = let m : n ≡ minor = cc in ap Some (q ∙ ap bytes_of m)
 
       by : (a b c : Bool) → (a ≡ true → p ≡ bytes_of 0) → (b ≡ true → p ≡ bytes_of 1) → (c ≡ true → p ≡ bytes_of 2)
-          → or_else (cond a (some 0) (cond b (some 1) (cond c (some 2) none))) later ≡ returned minor → cond (a || (b || c)) (some p) (first_known ps) ≡ some (bytes_of minor)
+          → or_else (cond a (Some 0) (cond b (Some 1) (cond c (Some 2) None))) later ≡ returned minor → cond (a || (b || c)) (Some p) (first_known ps) ≡ Some (bytes_of minor)
       by true b c f g h e = same_bytes 0 (f refl) e
       by false true c f g h e = same_bytes 1 (g refl) e
       by false false true f g h e = same_bytes 2 (h refl) e
       by false false false f g h e = rest e
 
   -- proposal k of four
-  echo-next : (s : List ℕ) (k : ℕ) (ps : List (List ℕ)) → k < 4 → (chosen (4 - (k + 1)) (drop (4 + 4 * (k + 1)) s) ≡ returned minor → first_known ps ≡ some (bytes_of minor))
-      → chosen (4 - k) (drop (4 + 4 * k) s) ≡ returned minor → first_known (part s (4 + 4 * k) 4 ∷ ps) ≡ some (bytes_of minor)
+  echo-next : (s : List ℕ) (k : ℕ) (ps : List (List ℕ)) → k < 4 → (chosen (4 - (k + 1)) (drop (4 + 4 * (k + 1)) s) ≡ returned minor → first_known ps ≡ Some (bytes_of minor))
+      → chosen (4 - k) (drop (4 + 4 * k) s) ≡ returned minor → first_known (part s (4 + 4 * k) 4 ∷ ps) ≡ Some (bytes_of minor)
   echo-next s k ps h rest e = echo-one (part s (4 + 4 * k) 4) ps (chosen (4 - (k + 1)) (drop (4 + 4 * (k + 1)) s)) rest (sym (chosen-next s k h) ∙ e)
 
-  no_more : (s : List ℕ) → chosen 0 s ≡ returned minor → first_known [] ≡ some (bytes_of minor)
+  no_more : (s : List ℕ) → chosen 0 s ≡ returned minor → first_known [] ≡ Some (bytes_of minor)
   unfolding chosen
   no_more s e = absurd (no_result e)
 

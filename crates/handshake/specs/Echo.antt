@@ -1,7 +1,6 @@
 -- "The first proposal equal to a known one is chosen and echoed" (document 01, "Handshake"): the bytes of the version agreed on are that
 -- proposal, byte for byte. Proved in proofs/Echo.antt. Assumes nothing.
-use Rattle.std.specs.Prelude.{ℕ, ◌≡◌, Bool, cond, ◌||◌, List, [], ◌∷◌}
-use Rattle.std.proofs.Math.Option.{Option, none, some}
+use Rattle.std.specs.Prelude.{ℕ, ◌≡◌, Bool, cond, ◌||◌, List, [], ◌∷◌, Option, Some, None}
 use Rattle.slices.specs.Parts.{part}
 use Rattle.slices.specs.Equality.{same}
 use Rattle.refusal.specs.Answer.{returned}
@@ -21,9 +20,9 @@ is_known p =
 
 -- the first that is known
 abbrev pub first_known : List (List ℕ) → Option (List ℕ)
-first_known [] = none
-first_known (p ∷ ps) = cond (is_known p) (some p) (first_known ps)
+first_known [] = None
+first_known (p ∷ ps) = cond (is_known p) (Some p) (first_known ps)
 
 -- of every handshake
 abbrev pub Claim : Type 0
-Claim = (s : List ℕ) (minor : ℕ) → negotiated s ≡ returned minor → first_known (proposals s) ≡ some (bytes_of minor)
+Claim = (s : List ℕ) (minor : ℕ) → negotiated s ≡ returned minor → first_known (proposals s) ≡ Some (bytes_of minor)

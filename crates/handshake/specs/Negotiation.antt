@@ -1,11 +1,7 @@
 -- The handshake (document 01, "Handshake", and refusals 1 to 3). Assumes nothing.
-use Rattle.std.specs.Prelude.{ℕ, zero, suc, Bool, true, cond, ◌&&◌, List, [], ◌∷◌, ltb, eqb, length, take, drop}
-use Rattle.std.proofs.Math.Option.{Option, none, some}
-use Rattle.refusal.specs.Numbers.{number_of}
+use Rattle.std.specs.Prelude.{ℕ, zero, suc, Bool, true, cond, ◌&&◌, List, [], ◌∷◌, ltb, eqb, length, take, drop, Option, Some, None}
 use Rattle.refusal.specs.Answer.{Answer, returned, refused}
 use Rattle.handshake.specs.Version.{proposed}
-use Rattle.handshake.specs.declared.negotiation.Negotiation.{Negotiation}
-use Rattle.handshake.specs.declared.negotiation.Negotiation.TheVariants.{Agreed, Refused}
 
 -- `60 60 B0 17`
 abbrev pub preamble : List ℕ
@@ -19,8 +15,8 @@ agrees (p ∷ ps) (b ∷ s) = eqb b p && agrees ps s
 
 -- the version named, or what comes of the proposals after it
 abbrev pub or_else : Option ℕ → Answer ℕ → Answer ℕ
-or_else (some minor) later = returned minor
-or_else none later = later
+or_else (Some minor) later = returned minor
+or_else None later = later
 
 -- the first of n proposals that is known is chosen; 3 if none is
 unfoldable pub chosen : ℕ → List ℕ → Answer ℕ
@@ -33,8 +29,3 @@ negotiated s =
     cond (agrees preamble s)
     (cond (ltb (length s) 20) (refused 1 0) (chosen 4 (drop 4 s)))
     (refused 2 0)
-
--- the code's answer in the paper's terms
-abbrev pub told : Negotiation → Answer ℕ
-told (Agreed version) = returned version.minor
-told (Refused why) = refused (number_of why) 0

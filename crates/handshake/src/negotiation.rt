@@ -1,17 +1,11 @@
 // The handshake: twenty bytes, of which the first four are the preamble and the others four proposals in order of preference.
 ghost use Rattle.std.specs.Prelude.{◌≡◌, ◌+◌, ◌≤◌, length};
 ghost use Rattle.slices.specs.Parts.{part};
-ghost use Rattle.handshake.specs.Negotiation.{negotiated, told, agrees, preamble};
+ghost use Rattle.refusal.specs.Answer.{told, mapped};
+ghost use Rattle.handshake.specs.Negotiation.{negotiated, agrees, preamble};
 
-use crate::version::{Proposal, Version};
+use crate::version::Version;
 use refusal::Refusal;
-
-// What a handshake comes to.
-#[derive(Clone, Copy)]
-pub enum Negotiation {
-    Agreed(Version),
-    Refused(Refusal),
-}
 
 const PREAMBLE: [u8; 4] = [0x60, 0x60, 0xB0, 0x17];
 
@@ -19,17 +13,7 @@ const PREAMBLE: [u8; 4] = [0x60, 0x60, 0xB0, 0x17];
 fn preamble_agrees(input: &[u8]) -> bool
     ensures { result ≡ agrees preamble input.now }
 {
-    let mut i = 0;
-    while i < 4 {
-        if input.len() <= i {
-            return true;
-        }
-        if input[i] != PREAMBLE[i] {
-            return false;
-        }
-        i += 1;
-    }
-    true
+    PREAMBLE.starts_with(&input[..input.len().min(PREAMBLE.len())])
 }
 
 // The four bytes at `at`.
@@ -37,28 +21,26 @@ fn four_at(input: &[u8], at: usize) -> [u8; 4]
     requires { at + 4 ≤ length input.now }
     ensures { result ≡ part input.now at 4 }
 {
-    [input[at], input[at + 1], input[at + 2], input[at + 3]]
+    input[at..at + 4].try_into().unwrap()
 }
 
 // The version to go on with: the first proposal that is known. Reads the first twenty bytes of `input`; what follows them is the
 // caller's. Refuses with 2 where a byte of the preamble is wrong, else with 1 where fewer than twenty bytes are there, else with 3
 // where no proposal is known: the server then sends four zeros.
-pub fn negotiate(input: &[u8]) -> Negotiation
-    ensures { told result ≡ negotiated input.now }
+pub fn negotiate(input: &[u8]) -> Result<Version, Refusal>
+    ensures { mapped (λ version. version.minor) (told result) ≡ negotiated input.now }
 {
     if !preamble_agrees(input) {
-        return Negotiation::Refused(Refusal::WrongPreamble);
+        return Err(Refusal::WrongPreamble);
     }
     if input.len() < 20 {
-        return Negotiation::Refused(Refusal::HandshakeTruncated);
+        return Err(Refusal::HandshakeTruncated);
     }
-    let mut k = 0;
-    while k < 4 {
-        let proposal = Version::from_bytes(four_at(input, 4 + 4 * k));
-        if let Proposal::Known(version) = proposal {
-            return Negotiation::Agreed(version);
+    // By index: there are four proposals, though more may follow them.
+    for k in 0..4 {
+        if let Some(version) = Version::from_bytes(four_at(input, 4 + 4 * k)) {
+            return Ok(version);
         }
-        k += 1;
     }
-    Negotiation::Refused(Refusal::NoCommonVersion)
+    Err(Refusal::NoCommonVersion)
 }

@@ -1,18 +1,11 @@
 // The versions of Bolt that are known. A version travels as four bytes, `00 00 minor major`.
-ghost use Rattle.std.specs.Prelude.{◌≡◌, leb};
+ghost use Rattle.std.specs.Prelude.{◌≡◌};
 ghost use Rattle.handshake.specs.Version.{bytes_of, keeps_alive, proposed, named_by};
 
 // A known version of Bolt 4. Its field is private: only the constants below, and what is read as one of them, are versions.
-#[derive(Clone, Copy)]
+#[derive(Clone, Copy, Debug, PartialEq, Eq, PartialOrd, Ord)]
 pub struct Version {
     minor: u8,
-}
-
-// What four bytes name.
-#[derive(Clone, Copy)]
-pub enum Proposal {
-    Known(Version),
-    Unknown,
 }
 
 impl Version {
@@ -23,29 +16,13 @@ impl Version {
     pub const V4_2: Version = Version { minor: 2 };
 
     // The known version that four bytes name, if they name one.
-    pub fn from_bytes(bytes: [u8; 4]) -> Proposal
+    pub fn from_bytes(bytes: [u8; 4]) -> Option<Version>
         ensures { named_by result ≡ proposed bytes }
     {
-        if bytes[0] != 0 {
-            return Proposal::Unknown;
+        match bytes {
+            [0, 0, minor @ 0..=2, 4] => Some(Version { minor }),
+            _ => None,
         }
-        if bytes[1] != 0 {
-            return Proposal::Unknown;
-        }
-        if bytes[3] != 4 {
-            return Proposal::Unknown;
-        }
-        let minor = bytes[2];
-        if minor == 0 {
-            return Proposal::Known(Version::V4_0);
-        }
-        if minor == 1 {
-            return Proposal::Known(Version::V4_1);
-        }
-        if minor == 2 {
-            return Proposal::Known(Version::V4_2);
-        }
-        Proposal::Unknown
     }
 
     // The four bytes of a version, as a proposal has them and as the server echoes them.
@@ -60,12 +37,5 @@ impl Version {
         ensures { result ≡ keeps_alive self.minor }
     {
         1 <= self.minor
-    }
-
-    // Whether it is `first` or a later version.
-    pub fn is_from(self, first: Version) -> bool
-        ensures { result ≡ leb first.minor self.minor }
-    {
-        first.minor <= self.minor
     }
 }

@@ -10,7 +10,7 @@ use lib.Bits.{bit_or}
 use lib.Dec.{eqb, ltb, leb}
 use lib.ListN.{length, get_or, set, drop, length-drop, drop_of_length-le}
 use lib.Seq.{drop-cons}
-use borrow.Author.Tests.{le-leb, lt-leb, lt-ltb, le-ltb, eq-eqb, ne_eqb, eqb-true, ltb-true, ltb-false}
+use borrow.Author.Tests.{le-leb, lt-leb, le-ltb, eq-eqb, ne_eqb, eqb-true, ltb-true, ltb-false}
 use Rattle.slices.specs.Parts.{front}
 use Rattle.slices.proofs.Below.{every, below}
 use Rattle.slices.proofs.Pieces.{Put, put_next, put-done}
@@ -157,11 +157,11 @@ module _ (s : List ℕ) where
 
 -- ---- one pair of digits more
 -- half as many bytes as digits, and twice as many digits as bytes
-pub length-bytes : (s : List ℕ) → length (to_bytes s) ≡ length s / 2
+pub length_bytes : (s : List ℕ) → length (to_bytes s) ≡ length s / 2
 unfolding to_bytes
-length-bytes [] = refl
-length-bytes (c ∷ []) = refl
-length-bytes (high ∷ low ∷ s) = ap suc (length-bytes s) ∙ omega arith
+length_bytes [] = refl
+length_bytes (c ∷ []) = refl
+length_bytes (high ∷ low ∷ s) = ap suc (length_bytes s) ∙ omega arith
 
 pub length_digits : (v : List ℕ) → length (to_digits v) ≡ 2 * length v
 unfolding to_digits
@@ -200,7 +200,7 @@ module _ (s d₀ d : List ℕ) (i : ℕ) (w : Bytes-put s d₀ d i) where
   pub bytes-put-next : (x : ℕ) → i < length s / 2 → length s / 2 ≤ length d₀
       → x ≡ 16 * value_of (get_or s (2 * i) 0) + value_of (get_or s (2 * i + 1) 0) → Bytes-put s d₀ (set d i x) (i + 1)
   bytes-put-next x h room e =
-      put_next (x ∷ []) (to_bytes (drop (2 * (i + 1)) s)) (rw (bytes_next s i h, ← e) at w) (rw (length-bytes s) room)
+      put_next (x ∷ []) (to_bytes (drop (2 * (i + 1)) s)) (rw (bytes_next s i h, ← e) at w) (rw (length_bytes s) room)
 
   pub bytes-put-done : length s / 2 ≤ i → d ≡ front (to_bytes s) d₀
   bytes-put-done h = put-done (rw (bytes-end (drop (2 * i) s) (simp length-drop (omega arith))) at w)
@@ -226,23 +226,13 @@ module _ (room : ℕ) (s : List ℕ) where
   unfolding decoding
   no_line e = simp e
 
-  module _ (line : is_line s ≡ true) where
-    pub no_room : room < length s / 2 → decoding room s ≡ refused 21 0
-    unfolding decoding
-    no_room h = simp (line, length-bytes s, lt-ltb room (length s / 2) h)
+  pub read : is_line s ≡ true → length s / 2 ≤ room → decoding room s ≡ returned (to_bytes s)
+  unfolding decoding
+  read line h = simp (line, length_bytes s, le-ltb room (length s / 2) h)
 
-    pub read : length s / 2 ≤ room → decoding room s ≡ returned (to_bytes s)
-    unfolding decoding
-    read h = simp (line, length-bytes s, le-ltb room (length s / 2) h)
-
-module _ (room : ℕ) (v : List ℕ) where
-  pub no-room-for-digits : room / 2 < length v → encoding room v ≡ refused 21 0
-  unfolding encoding
-  no-room-for-digits h = simp (length_digits v, lt-ltb room (2 * length v) (omega arith))
-
-  pub written : length v ≤ room / 2 → encoding room v ≡ returned (to_digits v)
-  unfolding encoding
-  written h = simp (length_digits v, le-ltb room (2 * length v) (omega arith))
+pub written : (room : ℕ) (v : List ℕ) → length v ≤ room / 2 → encoding room v ≡ returned (to_digits v)
+unfolding encoding
+written room v h = simp (length_digits v, le-ltb room (2 * length v) (omega arith))
 
 -- ---- what was written lies inside the buffer
 pub clash : ◌≡◌ {A = ℕ} 0 1 → ⊥

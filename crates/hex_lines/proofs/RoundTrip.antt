@@ -10,7 +10,7 @@ use Rattle.numbers.specs.BigEndian.{Bytes}
 use Rattle.refusal.specs.Answer.{returned, refused}
 use Rattle.hex_lines.specs.Hex.{is_digit, value_of, digit_of, all_digits, is_line, to_bytes, to_digits, into, decoding, encoding}
 use Rattle.hex_lines.specs.RoundTrip.{Claim}
-use Rattle.hex_lines.proofs.Lines.{clash, value-lt, digit_value, digit-is, value-digit, line-even, line-pairs, length-bytes, length_digits, read, written}
+use Rattle.hex_lines.proofs.Lines.{clash, value-lt, digit_value, digit-is, value-digit, line-even, line-pairs, length_bytes, length_digits, read, written}
 
 -- a result is the whole output
 into-result : (room : ℕ) (v : List ℕ) {w : List ℕ} → into room v ≡ returned w → v ≡ w
@@ -69,6 +69,6 @@ round_trip line bytes first second =
       line-back = λ e fits.
           let r = line_read first line e in
           let p = line-pairs line r.0 in
-          let n : length (to_bytes line) ≡ length line / 2 = length-bytes line in
+          let n : length (to_bytes line) ≡ length line / 2 = length_bytes line in
           rw (← r.1) (written second (to_bytes line) (omega (arith, n, fits)) ∙ ap returned (digits-of-bytes line p.0 p.1));
     }

@@ -1,11 +1,6 @@
 -- Lines of upper-case hexadecimal digits, to bytes and back: document 01, "Bench trial program", and refusals 21 and 23. Assumes nothing.
 use Rattle.std.specs.Prelude.{ℕ, ◌+◌, ◌-◌, ◌*◌, ◌/◌, ◌%◌, Bool, true, cond, ◌&&◌, ◌||◌, List, [], ◌∷◌, leb, ltb, eqb, length, get_or}
-use Rattle.refusal.specs.Numbers.{number_of}
 use Rattle.refusal.specs.Answer.{Answer, returned, refused}
-use Rattle.hex_lines.specs.declared.Decoded.{Decoded}
-use Rattle.hex_lines.specs.declared.Decoded.TheVariants as D
-use Rattle.hex_lines.specs.declared.Encoded.{Encoded}
-use Rattle.hex_lines.specs.declared.Encoded.TheVariants as E
 
 -- '0' to '9', and 'A' to 'F'
 unfoldable pub is_digit : ℕ → Bool
@@ -55,12 +50,3 @@ decoding room s = cond (is_line s) (into room (to_bytes s)) (refused 23 0)
 -- bytes written as a line
 unfoldable pub encoding : ℕ → List ℕ → Answer (List ℕ)
 encoding room v = into room (to_digits v)
-
--- the code's answers in the paper's terms
-abbrev pub bytes_told : Decoded → Answer ℕ
-bytes_told (D.Bytes n) = returned n
-bytes_told (D.Refused why) = refused (number_of why) 0
-
-abbrev pub characters_told : Encoded → Answer ℕ
-characters_told (E.Characters n) = returned n
-characters_told (E.Refused why) = refused (number_of why) 0

@@ -4,38 +4,21 @@
 
 ghost use Rattle.std.specs.Prelude.{◌≡◌, true, cond, ◌*◌, ◌/◌, ◌≤◌, ◌<◌, length};
 ghost use Rattle.slices.specs.Parts.{front};
-ghost use Rattle.refusal.specs.Answer.{counted, left};
-ghost use Rattle.hex_lines.specs.Hex.{is_digit, value_of, digit_of, is_line, to_bytes, to_digits, decoding, encoding, bytes_told, characters_told};
+ghost use Rattle.refusal.specs.Answer.{told, counted, left};
+ghost use Rattle.hex_lines.specs.Hex.{is_digit, value_of, digit_of, is_line, to_bytes, to_digits, decoding, encoding};
 
 use refusal::Refusal;
-
-// What reading a line answers: how many bytes it stands for, or why nothing was read.
-#[derive(Clone, Copy)]
-pub enum Decoded {
-    Bytes(usize),
-    Refused(Refusal),
-}
-
-// What writing bytes as digits answers: how many characters were written, or why none were.
-#[derive(Clone, Copy)]
-pub enum Encoded {
-    Characters(usize),
-    Refused(Refusal),
-}
 
 const DIGITS: [u8; 16] = *b"0123456789ABCDEF";
 
 // A line has at most so many characters.
 const MOST_CHARACTERS: usize = 40000;
 
+#[tactic(auto, unfolding(crate::specs::Hex::is_digit))]
 fn is_digit(c: u8) -> bool
     ensures { result ≡ is_digit c }
 {
-    match c {
-        b'0'..=b'9' => true,
-        b'A'..=b'F' => true,
-        _ => false,
-    }
+    matches!(c, b'0'..=b'9' | b'A'..=b'F')
 }
 
 // The low four bits of '0' to '9' are 0 to 9, of 'A' to 'F' 1 to 6; only letters have the bit of weight 64.
@@ -46,6 +29,7 @@ fn value_of(digit: u8) -> u8
     digit % 16 + 9 * (digit / 64)
 }
 
+#[tactic(auto, unfolding(crate::specs::Hex::digit_of))]
 fn digit_of(value: u8) -> u8
     requires { value < 16 }
     ensures { result ≡ digit_of value }
@@ -57,10 +41,7 @@ fn digit_of(value: u8) -> u8
 fn other_than_digit(c: u8) -> u8
     ensures { result ≡ cond (is_digit c) 0 1 }
 {
-    if is_digit(c) {
-        return 0;
-    }
-    1
+    if is_digit(c) { 0 } else { 1 }
 }
 
 // Whether the characters are a line: not too many, and pairs of digits. None of them ends the loop, so that the compiler looks at sixteen
@@ -68,17 +49,12 @@ fn other_than_digit(c: u8) -> u8
 fn is_line(line: &[u8]) -> bool
     ensures { result ≡ is_line line.now }
 {
-    if MOST_CHARACTERS < line.len() {
-        return false;
-    }
-    if line.len() % 2 != 0 {
+    if MOST_CHARACTERS < line.len() || line.len() % 2 != 0 {
         return false;
     }
     let mut others = 0u8;
-    let mut i = 0;
-    while i < line.len() {
-        others = others | other_than_digit(line[i]);
-        i += 1;
+    for c in line {
+        others |= other_than_digit(*c);
     }
     others == 0
 }
@@ -88,13 +64,11 @@ fn put_bytes(line: &[u8], out: &mut [u8])
     requires line_in_bounds { length line.now / 2 ≤ length out.old }
     ensures { out.new ≡ front (to_bytes line.now) out.old }
 {
-    let n = line.len() / 2;
-    let mut i = 0;
-    while i < n {
+    // By index: after an adapter of `iter_mut` a proof knows nothing of what was written.
+    for i in 0..line.len() / 2 {
         let high = value_of(line[2 * i]);
         let low = value_of(line[2 * i + 1]);
         out[i] = 16 * high + low;
-        i += 1;
     }
 }
 
@@ -102,42 +76,41 @@ fn put_digits(bytes: &[u8], out: &mut [u8])
     requires { 2 * length bytes.now ≤ length out.old }
     ensures { out.new ≡ front (to_digits bytes.now) out.old }
 {
-    let mut i = 0;
-    while i < bytes.len() {
-        let b = bytes[i];
-        out[2 * i] = digit_of(b / 16);
-        out[2 * i + 1] = digit_of(b % 16);
-        i += 1;
+    for (i, b) in bytes.iter().enumerate() {
+        out[2 * i] = digit_of(*b / 16);
+        out[2 * i + 1] = digit_of(*b % 16);
     }
 }
 
 // Writes the bytes that `line` stands for to the front of `out`; what stands past them stays. Refuses with 23 where the line has over
 // 40,000 characters or is not pairs of upper-case hexadecimal digits, and with 21 where the bytes are more than `out` holds. All
 // characters are looked at before the first byte is written, so that a refusal writes nothing.
-pub fn decode(line: &[u8], out: &mut [u8]) -> Decoded
-    ensures answer { bytes_told result ≡ counted (decoding (length out.old) line.now) }
+#[tactic(auto, using(crate::proofs::Lines::length_bytes), unfolding(crate::specs::Hex::decoding))]
+pub fn decode(line: &[u8], out: &mut [u8]) -> Result<usize, Refusal>
+    ensures answer { told result ≡ counted (decoding (length out.old) line.now) }
     ensures filled { out.new ≡ left front (decoding (length out.old) line.now) out.old }
 {
     if !is_line(line) {
-        return Decoded::Refused(Refusal::InvalidLine);
+        return Err(Refusal::InvalidLine);
     }
     let n = line.len() / 2;
     if out.len() < n {
-        return Decoded::Refused(Refusal::NoRoom);
+        return Err(Refusal::NoRoom);
     }
     put_bytes(line, out);
-    Decoded::Bytes(n)
+    Ok(n)
 }
 
 // Writes the digits of `bytes` to the front of `out`; what stands past them stays. Refuses with 21 where the digits are more than `out`
 // holds.
-pub fn encode(bytes: &[u8], out: &mut [u8]) -> Encoded
-    ensures answer { characters_told result ≡ counted (encoding (length out.old) bytes.now) }
+#[tactic(auto, using(crate::proofs::Lines::length_digits), unfolding(crate::specs::Hex::encoding))]
+pub fn encode(bytes: &[u8], out: &mut [u8]) -> Result<usize, Refusal>
+    ensures answer { told result ≡ counted (encoding (length out.old) bytes.now) }
     ensures filled { out.new ≡ left front (encoding (length out.old) bytes.now) out.old }
 {
     if out.len() / 2 < bytes.len() {
-        return Encoded::Refused(Refusal::NoRoom);
+        return Err(Refusal::NoRoom);
     }
     put_digits(bytes, out);
-    Encoded::Characters(2 * bytes.len())
+    Ok(2 * bytes.len())
 }

@@ -82,12 +82,9 @@ lines-inside (suc n) (c ∷ s) = by (is_end c) (lines-inside n s) (lines-inside 
     by true h k = omega (arith, h)
     by false h k = omega (arith, k)
 
--- so do what `take_line` takes and what it holds
+-- so does what `take_line` takes
 pub taken-fits : (s : List ℕ) {n : ℕ} → n ≡ length (first_lines 1 s) → n ≤ length s
 taken-fits s e = omega (arith, lines-inside 1 s)
-
-pub held_fits : (most : ℕ) (begun s : List ℕ) {n : ℕ} → n ≡ length (held_of most begun s) → n ≤ most
-held_fits most begun s e = omega (arith, length-take most (begun ++ first_line s))
 
 -- without a line end they are all there is
 pub lines-all : (s : List ℕ) → has_end s ≡ false → first_lines 1 s ≡ s

@@ -4,11 +4,14 @@ use mathlib.Core.Logic.{⊎_elim}
 use mathlib.Core.Bool.{Bool, true, false, cond}
 use mathlib.Core.List.{List, [], ◌∷◌, ◌++◌}
 use Prim.Native.Nat.{ℕ, zero, suc, ◌+◌, ◌-◌, ◌<◌, ◌≤◌, min}
-use native.Mathlib.Numerals.{add-one}
 use native.Mathlib.Omega.{arith}
-use lib.ListN.{length, get_or, take, drop, length-take, length-append, drop_of_length-le}
-use lib.Seq.{sets, drop-cons, take-nil, take-append-add, take-take, take_all, length-take-le}
-use borrow.Author.Tests.{eq-eqb, ne_eqb}
+use lib.ListN.{length, take, length-take}
+use lib.Seq.{sets, take-nil, take-append-add, take-take, take_all, length-take-le}
+use borrow.Author.Tests.{eq-eqb, ne_eqb, lt-ltb, le-ltb}
+use lib.Dec.{ltb}
+use Rattle.std.specs.Prelude.{Option, MatchOption, unwrap_or, ◌≢◌}
+use Rattle.std.specs.List.{AllWithin, HoldsAt}
+use Rattle.std.proofs.lemmas.Iterator.{index_from_first}
 use Rattle.slices.specs.Parts.{copied, fits, front}
 use Rattle.slices.proofs.Parts.{sets-front, fits-yes}
 use Rattle.slices.proofs.Tests.{lt-or-ge}
@@ -16,22 +19,14 @@ use Rattle.lines.specs.Lines.{is_end, first_line, has_end, first_lines}
 use Rattle.lines.specs.Blocks.{held_of}
 
 -- ---- the search
--- the i characters passed are no line ends
-abbrev pub Passed : List ℕ → ℕ → Type 0
-Passed s i = length (first_line s) ≡ i + length (first_line (drop i s))
-
-module _ (s : List ℕ) (i : ℕ) (inside : i < length s) (w : Passed s i) where
-  pub passed-next : (get_or s i 0 ≡ 0x0A → ⊥) → Passed s (i + 1)
-  unfolding first_line
-  passed-next h = w ∙ rw (drop-cons s i 0 inside, add-one i) (simp (ne_eqb (get_or s i 0) 0x0A h) (omega arith))
-
-  pub passed-end : get_or s i 0 ≡ 0x0A → length (first_line s) ≡ i
-  unfolding first_line
-  passed-end h = w ∙ rw (drop-cons s i 0 inside) (simp (eq-eqb (get_or s i 0) 0x0A h) (omega arith))
-
-pub passed-all : (s : List ℕ) (i : ℕ) → length s ≤ i → Passed s i → length (first_line s) ≡ i
+-- the first line is as long as the place of the first line end, or the list where there is none
+pub first_end : (s : List ℕ) (r : Option ℕ)
+    → MatchOption r (AllWithin (λ c. c ≢ 0x0A) s 0 (length s)) (λ i. (i < length s) × HoldsAt (λ c. c ≡ 0x0A) s i × AllWithin (λ c. c ≢ 0x0A) s 0 i)
+    → length (first_line s) ≡ unwrap_or r (length s)
 unfolding first_line
-passed-all s i h w = w ∙ rw (drop_of_length-le s h) (omega arith)
+first_end s r found =
+    index_from_first (λ l. length (first_line l)) (λ c. c ≡ 0x0A) (λ c. c ≢ 0x0A) refl (λ c l e. rw (eq-eqb c 0x0A e) refl)
+    (λ c l h. rw (ne_eqb c 0x0A h) (omega arith)) s r found
 
 -- ---- what the line's length decides
 -- where it ends, a line end is taken with it
@@ -57,6 +52,12 @@ line-goes-on (c ∷ s) h = by (is_end c) h (line-goes-on s)
         → (length (cond b [] (c ∷ first_line s)) ≡ suc (length (cond b [] (first_lines 1 s)))) × (false ≡ cond b true (has_end s))
     by true k e = absurd (omega (arith, k))
     by false k e = let r = e (omega (arith, k)) in (omega (arith, r.0), r.1)
+
+-- so a line end is there exactly if the line is shorter than all
+pub ends-inside : (s : List ℕ) {n : ℕ} → n ≡ length (first_line s) → ltb n (length s) ≡ has_end s
+ends-inside s {n} e =
+    ⊎_elim (λ h. lt-ltb n (length s) h ∙ (line-ends s (omega (arith, e, h))).1) (λ h. le-ltb n (length s) h ∙ (line-goes-on s (omega (arith, e, h))).1)
+    (lt-or-ge n (length s))
 
 -- it lies inside
 line-inside : (s : List ℕ) → length (first_line s) ≤ length s
@@ -117,9 +118,6 @@ module _ (held : List ℕ) (begun : ℕ) (block : List ℕ) {at kept size : ℕ}
       (ap (take (length held - length b)) (line-front block)
       ∙ take-front (length held - length b) (length (first_line block)) block
       ∙ ap (λ (m : ℕ). take m block) (let e : min (length (first_line block)) (length held - length b) ≡ kept = omega (arith, k, n, b-length) in e))
-
-  pub line-size : at + kept ≡ length (held_of (length held) b block)
-  line-size = omega (arith, ap length line-is, length-append b (take kept block), b-length, length-take-le kept block kept-inside)
 
   pub line-held : {d : List ℕ} → d ≡ copied block 0 kept held at → d ≡ front (held_of (length held) b block) held
   line-held {d} e =

@@ -13,7 +13,7 @@ pub const LINE_END: u8 = 0x0A;
 pub const HELD: usize = 40001;
 
 // What the next characters of a stream come to: how many were taken, whether a line end was the last of them, and how many characters of
-// the line are held.
+// the line are held. No Option with a value: each field says something of every block, whether a line ends in it or not.
 #[derive(Clone, Copy)]
 pub struct Taken {
     pub taken: usize,
@@ -25,18 +25,15 @@ pub struct Taken {
 fn first_length(bytes: &[u8]) -> usize
     ensures { result ≡ length (first_line bytes.now) }
 {
-    let mut i = 0;
-    while i < bytes.len() {
-        if bytes[i] == LINE_END {
-            return i;
-        }
-        i += 1;
-    }
-    i
+    bytes
+        .iter()
+        .position(|b| *b == LINE_END)
+        .unwrap_or(bytes.len())
 }
 
 // Takes the characters of a block up to its first line end, and that. Those of the line are held behind the `begun` characters of it that
-// are held already, as far as there is room for them: the line stands in front of what was lent.
+// are held already, as far as there is room for them: the line stands in front of what was lent. A buffer with a length beside it, since a
+// line is held in fixed memory, which the caller keeps from block to block.
 pub fn take_line(held: &mut [u8], begun: usize, block: &[u8]) -> Taken
     ensures taken { result.taken ≡ length (first_lines 1 block.now) }
     ensures ended { result.ended ≡ has_end block.now }
@@ -44,19 +41,13 @@ pub fn take_line(held: &mut [u8], begun: usize, block: &[u8]) -> Taken
     ensures filled { held.new ≡ front (held_of (length held.old) (take begun held.old) block.now) held.old }
 {
     let length = first_length(block);
-    let at = slices::least(begun, held.len());
-    let kept = slices::least(length, held.len() - at);
+    let at = begun.min(held.len());
+    let kept = length.min(held.len() - at);
     slices::copy(block, 0, kept, held, at);
-    if length < block.len() {
-        return Taken {
-            taken: length + 1,
-            ended: true,
-            size: at + kept,
-        };
-    }
+    let ended = length < block.len();
     Taken {
-        taken: length,
-        ended: false,
+        taken: if ended { length + 1 } else { length },
+        ended,
         size: at + kept,
     }
 }

@@ -1,18 +1,25 @@
-// Extents: where a value's content lies, as far as its marker and its size tell.
-ghost use Rattle.std.specs.Prelude.{◌≡◌, true, cond, ◌≤◌, ◌<◌, length};
-ghost use Rattle.markers.specs.Marker.{small, is_string};
-ghost use Rattle.markers.specs.Extents.{size_at, leaf_extent, container_extent, extent_at, key_extent_at};
+// Extents: where a value's content lies, as far as its marker and its size tell. A message and an offset in it stay two parameters: one message is
+// lent, and many offsets of it are looked at, so that a struct of both would be made anew at each.
+ghost use Rattle.std.specs.Prelude.{◌≡◌, ◌≤◌, ◌<◌, length, Ok};
+ghost use Rattle.markers.specs.Marker.{small};
+ghost use Rattle.markers.specs.Extents.{on_size, size_at, leaf_span, leaf_extent, container_extent, extent_at, key_extent_at};
 
-use crate::kind::{Container, Leaf, is_string};
-use crate::marker::{Kind, Marker, split};
-use numbers::Unsigned;
-use refusal::Refusal;
+use crate::kind::{Container, Leaf};
+use crate::marker::{Kind, Marker};
+use refusal::{Fault, Refusal};
 
 // At most so many containers may be open.
 pub const MOST_OPEN: usize = 16;
 
+// `size` bytes from `start` on.
+#[derive(Clone, Copy, Debug, PartialEq, Eq)]
+pub struct Span {
+    pub start: usize,
+    pub size: usize,
+}
+
 // What lies at an offset.
-#[derive(Clone, Copy)]
+#[derive(Clone, Copy, Debug, PartialEq, Eq)]
 pub enum Extent {
     // A value of `size` bytes from `start` on.
     Leaf {
@@ -26,150 +33,143 @@ pub enum Extent {
         start: usize,
         count: usize,
     },
-    Refused {
-        refusal: Refusal,
-        place: usize,
-    },
-}
-
-fn refused(refusal: Refusal, place: usize) -> Extent
-    ensures { result ≡ Extent.Refused refusal place }
-{
-    Extent::Refused {
-        refusal: refusal,
-        place: place,
-    }
 }
 
 // The size that the marker at `at` gives, itself or in the bytes after it.
-fn size_at(message: &[u8], at: usize, marker: Marker) -> Unsigned
+fn size_at(message: &[u8], at: usize, marker: Marker) -> Result<usize, Fault>
     requires { (at < length message.now) × (marker.skip ≤ 1) }
-    ensures { result ≡ size_at message.now at marker }
+    ensures { result ≡ on_size at (size_at message.now at marker) (λ n. Ok n) }
 {
-    let width = marker.width;
-    if width == 0 {
-        return Unsigned::Number(marker.size as u64);
+    if marker.width == 0 {
+        return Ok(marker.size);
     }
-    numbers::read_unsigned(message, at + marker.skip, width)
+    match numbers::read_unsigned(message, at + marker.skip, marker.width) {
+        Ok(size) => Ok(size as usize),
+        Err(_) => Err(Refusal::ValueTruncated.at(at)),
+    }
 }
 
-fn leaf_extent(message: &[u8], at: usize, kind: Leaf, marker: Marker) -> Extent
+// Where the content lies of a value that holds no other.
+fn leaf_span(message: &[u8], at: usize, marker: Marker) -> Result<Span, Fault>
+    requires { (at < length message.now) × (marker.skip ≤ 1) }
+    ensures { result ≡ leaf_span message.now at marker }
+{
+    let size = size_at(message, at, marker)?;
+    let start = at + marker.skip + marker.width;
+    if message.len() - start < size {
+        return Err(Refusal::ValueTruncated.at(at));
+    }
+    Ok(Span { start, size })
+}
+
+fn leaf_extent(message: &[u8], at: usize, kind: Leaf, marker: Marker) -> Result<Extent, Fault>
     requires { (at < length message.now) × (marker.skip ≤ 1) }
     ensures { result ≡ leaf_extent message.now at kind marker }
 {
-    let Unsigned::Number(n) = size_at(message, at, marker) else {
-        return refused(Refusal::ValueTruncated, at);
-    };
-    let size = n as usize;
-    let start = at + marker.skip + marker.width;
-    if message.len() - start < size {
-        return refused(Refusal::ValueTruncated, at);
-    }
-    Extent::Leaf {
-        kind: kind,
-        start: start,
-        size: size,
-    }
+    let Span { start, size } = leaf_span(message, at, marker)?;
+    Ok(Extent::Leaf { kind, start, size })
 }
 
-fn container_extent(message: &[u8], at: usize, kind: Container, marker: Marker) -> Extent
+fn container_extent(
+    message: &[u8],
+    at: usize,
+    kind: Container,
+    marker: Marker,
+) -> Result<Extent, Fault>
     requires { (at < length message.now) × (marker.skip ≤ 1) }
     ensures { result ≡ container_extent message.now at kind marker }
 {
-    let Unsigned::Number(n) = size_at(message, at, marker) else {
-        return refused(Refusal::ValueTruncated, at);
-    };
-    Extent::Container {
-        kind: kind,
-        start: at + marker.skip + marker.width,
-        count: n as usize,
-    }
+    let count = size_at(message, at, marker)?;
+    let start = at + marker.skip + marker.width;
+    Ok(Extent::Container { kind, start, count })
 }
 
-// Whether a leaf is what is wanted: where that is a key, a String.
-fn is_wanted(is_key: bool, leaf: Leaf) -> bool
-    ensures { result ≡ cond is_key (is_string leaf) true }
-{
-    if is_key {
-        return is_string(leaf);
-    }
-    true
-}
-
-// What lies at `at`, where there is a marker: of a key, or of a value with room for `depth` open containers.
-fn by_marker(message: &[u8], at: usize, depth: usize, is_key: bool) -> Extent
+// What lies at `at`, where there is a marker, with room for `depth` open containers. It stays out of line, so that `extent_at`, which decides
+// for most values, is short enough to be inlined.
+#[inline(never)]
+fn extent_by_marker(message: &[u8], at: usize, depth: usize) -> Result<Extent, Fault>
     requires { at < length message.now }
-    ensures { result ≡ cond is_key (key_extent_at message.now at) (extent_at message.now depth at) }
+    ensures { result ≡ extent_at message.now depth at }
 {
-    let marker = split(message[at]);
-    let kind = marker.kind;
-    match kind {
-        Kind::Reserved => refused(Refusal::ReservedMarker, at),
-        Kind::Leaf(leaf) => {
-            if !is_wanted(is_key, leaf) {
-                return refused(Refusal::KeyNotString, at);
-            }
-            leaf_extent(message, at, leaf, marker)
-        }
-        Kind::Container(container) => {
-            if is_key {
-                return refused(Refusal::KeyNotString, at);
-            }
+    let marker = Marker::from(message[at]);
+    match marker.kind {
+        Kind::Reserved => Err(Refusal::ReservedMarker.at(at)),
+        Kind::Leaf(kind) => leaf_extent(message, at, kind, marker),
+        Kind::Container(kind) => {
             if depth == 0 {
-                return refused(Refusal::TooDeep, at);
+                return Err(Refusal::TooDeep.at(at));
             }
-            container_extent(message, at, container, marker)
+            container_extent(message, at, kind, marker)
         }
     }
 }
 
-// A String whose marker tells its size.
-fn small_string(message: &[u8], at: usize, size: usize) -> Extent
+// Where the content of the key at `at` lies, where there is a marker. It stays out of line for the same reason.
+#[inline(never)]
+fn key_by_marker(message: &[u8], at: usize) -> Result<Span, Fault>
     requires { at < length message.now }
-    ensures { result ≡ leaf_extent message.now at Leaf.String (small (Kind.Leaf Leaf.String) size) }
+    ensures { result ≡ key_extent_at message.now at }
+{
+    let marker = Marker::from(message[at]);
+    let not_string = Refusal::KeyNotString.at(at);
+    match marker.kind {
+        Kind::Reserved => Err(Refusal::ReservedMarker.at(at)),
+        Kind::Leaf(Leaf::String) => leaf_span(message, at, marker),
+        _ => Err(not_string),
+    }
+}
+
+// Where the content lies of a String whose marker tells its size.
+fn small_string(message: &[u8], at: usize, size: usize) -> Result<Span, Fault>
+    requires { at < length message.now }
+    ensures { result ≡ leaf_span message.now at (small (Kind.Leaf Leaf.String) size) }
 {
     if message.len() - at <= size {
-        return refused(Refusal::ValueTruncated, at);
+        return Err(Refusal::ValueTruncated.at(at));
     }
-    Extent::Leaf {
-        kind: Leaf::String,
+    Ok(Span {
         start: at + 1,
-        size: size,
-    }
+        size,
+    })
 }
 
 // What lies at `at`, with room for `depth` open containers. Text is not looked at, nor a Structure's tag. Most values are small Strings
 // and Integers, which are told by their markers alone: they are looked for first.
-pub fn extent_at(message: &[u8], at: usize, depth: usize) -> Extent
+pub fn extent_at(message: &[u8], at: usize, depth: usize) -> Result<Extent, Fault>
     ensures { result ≡ extent_at message.now depth at }
 {
     if message.len() <= at {
-        return refused(Refusal::ValueTruncated, message.len());
+        return Err(Refusal::ValueTruncated.at(message.len()));
     }
     let marker = message[at];
     if marker >> 4 == 8 {
-        return small_string(message, at, (marker & 15) as usize);
+        let Span { start, size } = small_string(message, at, (marker & 15) as usize)?;
+        return Ok(Extent::Leaf {
+            kind: Leaf::String,
+            start,
+            size,
+        });
     }
     if marker < 0x80 {
-        return Extent::Leaf {
+        return Ok(Extent::Leaf {
             kind: Leaf::Integer,
             start: at,
             size: 1,
-        };
+        });
     }
-    by_marker(message, at, depth, false)
+    extent_by_marker(message, at, depth)
 }
 
-// What lies at `at` where a key is wanted: nothing but a String's extent will do.
-pub fn key_extent_at(message: &[u8], at: usize) -> Extent
+// Where the content of the key at `at` lies: nothing but a String will do.
+pub fn key_extent_at(message: &[u8], at: usize) -> Result<Span, Fault>
     ensures { result ≡ key_extent_at message.now at }
 {
     if message.len() <= at {
-        return refused(Refusal::ValueTruncated, message.len());
+        return Err(Refusal::ValueTruncated.at(message.len()));
     }
     let marker = message[at];
     if marker >> 4 == 8 {
         return small_string(message, at, (marker & 15) as usize);
     }
-    by_marker(message, at, 0, true)
+    key_by_marker(message, at)
 }

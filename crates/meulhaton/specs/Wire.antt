@@ -1,7 +1,6 @@
 -- The layers' answers as structs of numbers: the refusal's number, 0 for none, and its place; then what the result holds, or zeros.
 -- Assumes nothing.
-use Rattle.std.specs.Prelude.{ℕ}
-use Rattle.std.proofs.Math.Option.{Option, none, some}
+use Rattle.std.specs.Prelude.{ℕ, Option, Some, None}
 use Rattle.refusal.specs.Answer.{Answer, returned, refused}
 use Rattle.handshake.specs.Version.{bytes_of, proposed}
 use Rattle.framing.specs.Reading.{Told, message-of, keep-alive-of}
@@ -27,8 +26,8 @@ output_of (refused number place) = record { refusal = number; place = place; end
 
 -- what is named, if anything is
 abbrev pub named : {A B : Type 0} → Option A → (A → Answer B) → Answer B
-named (some a) f = f a
-named none f = refused 24 0
+named (Some a) f = f a
+named None f = refused 24 0
 
 -- a call in the version of a minor number: 24 where the number names no known version
 abbrev pub in_version : {A : Type 0} → ℕ → (ℕ → Answer A) → Answer A

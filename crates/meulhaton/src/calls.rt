@@ -7,7 +7,7 @@ ghost use Rattle.meulhaton_calls.specs.Calls.{outcome_of, in_numbers, unnamed_of
 
 use meulhaton_calls::arguments::OutcomeImage;
 use meulhaton_calls::replies::Reply;
-use meulhaton_calls::{arguments, replies, unnamed};
+use meulhaton_calls::{arguments, unnamed};
 use meulhaton_fields::request::RequestImage;
 use record::record::Connection;
 
@@ -22,41 +22,30 @@ pub fn meulhaton_fresh() -> Connection
 pub fn meulhaton_arrive(connection: &mut Connection, request: RequestImage) -> Reply
     ensures { (connection.new ≡ (call_on connection.old (arrive request)).connection) × (result ≡ (call_on connection.old (arrive request)).reply) }
 {
-    let request = arguments::arriving(request);
-    let answer = connection::arrive(connection, request);
-    replies::arrived(answer)
+    Reply::from(connection::arrive(connection, arguments::arriving(request)))
 }
 
 // The turn of the first request.
 pub fn meulhaton_take(connection: &mut Connection) -> Reply
     ensures { (connection.new ≡ (call_on connection.old take).connection) × (result ≡ (call_on connection.old take).reply) }
 {
-    let answer = connection::take(connection);
-    replies::taken(answer)
+    Reply::from(connection::take(connection))
 }
 
 // An outcome that is named.
 fn report_named(connection: &mut Connection, outcome: OutcomeImage) -> Reply
     ensures { (connection.new ≡ (in_numbers (report_of connection.old (outcome_of outcome.number))).connection) × (result ≡ (in_numbers (report_of connection.old (outcome_of outcome.number))).reply) }
 {
-    let outcome = arguments::outcome_of(outcome);
-    let answer = connection::report(connection, outcome);
-    replies::reported(answer)
+    Reply::from(connection::report(connection, arguments::outcome_of(outcome)))
 }
 
 // An outcome whose number names none.
 fn report_unnamed(connection: &mut Connection) -> Reply
     ensures { (connection.new ≡ (unnamed_of connection.old).connection) × (result ≡ (unnamed_of connection.old).reply) }
 {
-    let after = unnamed::step(
-        connection.control,
-        &connection.streams,
-        &connection.kinds,
-        &connection.counts,
-        &connection.qids,
-    );
+    let after = unnamed::step(connection.control, &connection.streams, &connection.queue);
     connection.control = after.control;
-    after.reply
+    after.answer
 }
 
 // The engine's outcome.
@@ -73,6 +62,5 @@ pub fn meulhaton_report(connection: &mut Connection, outcome: OutcomeImage) -> R
 pub fn meulhaton_close(connection: &mut Connection) -> Reply
     ensures { (connection.new ≡ (call_on connection.old close).connection) × (result ≡ (call_on connection.old close).reply) }
 {
-    let answer = connection::close(connection);
-    replies::closed(answer)
+    Reply::from(connection::close(connection))
 }

@@ -1,21 +1,16 @@
-// The handshake, frames and chunks, as numbers.
+// The handshake, frames and chunks, as numbers: C has no Result and no enum with fields.
 ghost use Rattle.std.specs.Prelude.{◌≡◌, length};
 ghost use Rattle.slices.specs.Parts.{front};
 ghost use Rattle.handshake.specs.Version.{bytes_of, keeps_alive, proposed, named_by};
-ghost use Rattle.handshake.specs.Negotiation as negotiation;
 ghost use Rattle.handshake.specs.Negotiation.{negotiated};
 ghost use Rattle.refusal.specs.Numbers.{number_of};
-ghost use Rattle.refusal.specs.Answer.{refused, counted, left};
-ghost use Rattle.framing.specs.Reading as reading;
-ghost use Rattle.framing.specs.Reading.{frame_of, telling, leaves};
-ghost use Rattle.framing.specs.Chunking as chunking;
+ghost use Rattle.refusal.specs.Answer.{refused, counted, left, told, mapped};
+ghost use Rattle.framing.specs.Reading.{frame_of, told_frame, telling, leaves};
 ghost use Rattle.framing.specs.Chunking.{writing};
 ghost use Rattle.meulhaton.specs.Wire.{agreement_of, frame_answer, output_of, in_version};
 
 use framing::reader::Frame;
-use framing::writer::Written;
-use handshake::negotiation::Negotiation;
-use handshake::version::{Proposal, Version};
+use handshake::version::Version;
 use refusal::Refusal;
 
 // The minor version agreed on, or the refusal.
@@ -47,23 +42,25 @@ pub struct Output {
     pub end: u64,
 }
 
-fn agreed(found: Negotiation) -> Agreement
-    ensures { result ≡ agreement_of (negotiation.told found) }
-{
-    match found {
-        Negotiation::Agreed(version) => {
-            let bytes = version.to_bytes();
-            Agreement {
-                refusal: 0,
-                minor: bytes[2],
-                place: 0,
+impl From<Result<Version, Refusal>> for Agreement {
+    ghost from_gives = { λ found agreement. agreement ≡ agreement_of (mapped (λ version. version.minor) (told found)) };
+
+    fn from(found: Result<Version, Refusal>) -> Agreement {
+        match found {
+            Ok(version) => {
+                let [_, _, minor, _] = version.to_bytes();
+                Agreement {
+                    refusal: 0,
+                    minor,
+                    place: 0,
+                }
             }
+            Err(why) => Agreement {
+                refusal: why.number(),
+                minor: 0,
+                place: 0,
+            },
         }
-        Negotiation::Refused(why) => Agreement {
-            refusal: why.number(),
-            minor: 0,
-            place: 0,
-        },
     }
 }
 
@@ -71,47 +68,43 @@ fn agreed(found: Negotiation) -> Agreement
 pub fn meulhaton_negotiate(input: &[u8]) -> Agreement
     ensures { result ≡ agreement_of (negotiated input.now) }
 {
-    agreed(handshake::negotiation::negotiate(input))
+    Agreement::from(handshake::negotiation::negotiate(input))
 }
 
 // The known version of this minor number.
-pub fn version_of(minor: u8) -> Proposal
+pub fn version_of(minor: u8) -> Option<Version>
     ensures { named_by result ≡ proposed (bytes_of minor) }
 {
     Version::from_bytes([0, 0, minor, 4])
 }
 
-fn frame_refused(why: Refusal) -> FrameRead
-    ensures { result ≡ frame_answer (refused (number_of why) 0) }
-{
-    FrameRead {
-        refusal: why.number(),
-        kind: 0,
-        place: 0,
-        length: 0,
-        consumed: 0,
-    }
-}
+impl From<Result<Frame, Refusal>> for FrameRead {
+    ghost from_gives = { λ found frame. frame ≡ frame_answer (mapped told_frame (told found)) };
 
-fn frame_answer(found: Frame) -> FrameRead
-    ensures { result ≡ frame_answer (reading.told found) }
-{
-    match found {
-        Frame::Message { length, consumed } => FrameRead {
-            refusal: 0,
-            kind: 1,
-            place: 0,
-            length: length as u64,
-            consumed: consumed as u64,
-        },
-        Frame::KeepAlive => FrameRead {
-            refusal: 0,
-            kind: 2,
-            place: 0,
-            length: 0,
-            consumed: 2,
-        },
-        Frame::Refused(why) => frame_refused(why),
+    fn from(found: Result<Frame, Refusal>) -> FrameRead {
+        match found {
+            Ok(Frame::Message { length, consumed }) => FrameRead {
+                refusal: 0,
+                kind: 1,
+                place: 0,
+                length: length as u64,
+                consumed: consumed as u64,
+            },
+            Ok(Frame::KeepAlive) => FrameRead {
+                refusal: 0,
+                kind: 2,
+                place: 0,
+                length: 0,
+                consumed: 2,
+            },
+            Err(why) => FrameRead {
+                refusal: why.number(),
+                kind: 0,
+                place: 0,
+                length: 0,
+                consumed: 0,
+            },
+        }
     }
 }
 
@@ -120,30 +113,28 @@ pub fn meulhaton_read_frame(minor: u8, input: &[u8], buffer: &mut [u8]) -> Frame
     ensures answer { result ≡ frame_answer (telling (in_version minor (λ v. frame_of (keeps_alive v) (length buffer.old) input.now))) }
     ensures filled { buffer.new ≡ left leaves (in_version minor (λ v. frame_of (keeps_alive v) (length buffer.old) input.now)) buffer.old }
 {
-    let proposal = version_of(minor);
-    match proposal {
-        Proposal::Known(version) => {
-            let found = framing::reader::read_frame(version, input, buffer);
-            frame_answer(found)
-        }
-        Proposal::Unknown => frame_refused(Refusal::InvalidRecord),
-    }
+    let Some(version) = version_of(minor) else {
+        return FrameRead::from(Err(Refusal::InvalidRecord));
+    };
+    FrameRead::from(framing::reader::read_frame(version, input, buffer))
 }
 
-fn written(done: Written) -> Output
-    ensures { result ≡ output_of (chunking.told done) }
-{
-    match done {
-        Written::Bytes(length) => Output {
-            refusal: 0,
-            place: 0,
-            end: length as u64,
-        },
-        Written::Refused(why) => Output {
-            refusal: why.number(),
-            place: 0,
-            end: 0,
-        },
+impl From<Result<usize, Refusal>> for Output {
+    ghost from_gives = { λ done output. output ≡ output_of (told done) };
+
+    fn from(done: Result<usize, Refusal>) -> Output {
+        match done {
+            Ok(end) => Output {
+                refusal: 0,
+                place: 0,
+                end: end as u64,
+            },
+            Err(why) => Output {
+                refusal: why.number(),
+                place: 0,
+                end: 0,
+            },
+        }
     }
 }
 
@@ -152,6 +143,5 @@ pub fn meulhaton_write_chunks(message: &[u8], chunk_size: usize, out: &mut [u8])
     ensures answer { result ≡ output_of (counted (writing chunk_size (length out.old) message.now)) }
     ensures filled { out.new ≡ left front (writing chunk_size (length out.old) message.now) out.old }
 {
-    let done = framing::writer::write_chunks(message, chunk_size, out);
-    written(done)
+    Output::from(framing::writer::write_chunks(message, chunk_size, out))
 }

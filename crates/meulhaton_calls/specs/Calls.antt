@@ -1,5 +1,5 @@
 -- The calls on a connection record in numbers: document 01, "Connection record" and "Refusal numbers". Assumes nothing.
-use Rattle.std.specs.Prelude.{ℕ, Bool, cond, List, eqb, leb, ℤ, pos}
+use Rattle.std.specs.Prelude.{ℕ, Bool, cond, List, eqb, leb, pos}
 use Rattle.refusal.specs.Answer.{Answer, refused}
 use Rattle.states.specs.declared.request.Request.{Request}
 use Rattle.states.specs.declared.request.Request.TheVariants.{Pull}
@@ -13,7 +13,8 @@ use Rattle.record.specs.Calls.{After, Storing, storing, nowhere, called}
 use Rattle.meulhaton_fields.specs.declared.request.RequestImage.{RequestImage}
 use Rattle.meulhaton_calls.specs.declared.arguments.OutcomeImage.{OutcomeImage}
 use Rattle.meulhaton_calls.specs.declared.replies.Reply.{Reply}
-use Rattle.meulhaton_calls.specs.declared.unnamed.Replied.{Replied}
+use Rattle.record.specs.declared.record.Queue.{Queue}
+use Rattle.steps.specs.declared.after.After.{After as Stepped}
 use Rattle.meulhaton_calls.specs.Replies.{reply_of}
 
 -- ---- what the arguments name
@@ -73,6 +74,6 @@ call_on c x = in_numbers (called (stores_of x) c (step_on (kept c) x))
 abbrev pub unnamed_of : Connection → ReplyAfter
 unnamed_of c = in_numbers (called nowhere c (unless_defunct (kept c) (refused 19 0)))
 
--- what it returns on the parts of a record, with the arrays after it
-abbrev pub told_reply : Replied → List ℕ → List ℕ → List ℤ → List ℤ → ReplyAfter
-told_reply r streams kinds counts qids = record { connection = joined r.control streams kinds counts qids; reply = r.reply }
+-- what it returns on the parts of a record, with the streams and the queue after it
+abbrev pub told_reply : Stepped Reply → List ℕ → Queue → ReplyAfter
+told_reply r streams queue = record { connection = joined r.control streams queue; reply = r.answer }

@@ -9,7 +9,7 @@ use states::request::Request;
 
 // How the engine ended a request: success 0, success with more 1, failure 2.
 #[repr(C)]
-#[derive(Clone, Copy)]
+#[derive(Clone, Copy, Debug, PartialEq, Eq)]
 pub struct OutcomeImage {
     pub number: u8,
 }
@@ -19,14 +19,13 @@ pub fn arriving(image: RequestImage) -> Request
     ensures { result ≡ arriving image }
 {
     if names::is_request(image.kind) {
-        let n = image.n;
-        let qid = image.qid;
-        return names::request_of(image.kind, n, qid);
+        return names::request_of(image.kind, image.n, image.qid);
     }
     Request::Pull { n: 0, qid: 0 }
 }
 
-// Whether the number names an outcome.
+// Whether the number names an outcome. C can pass any number, and `outcome_of` says what each is taken for: so these are two functions, and no
+// TryFrom.
 pub fn is_outcome(image: OutcomeImage) -> bool
     ensures { result ≡ is_outcome image }
 {
@@ -37,12 +36,9 @@ pub fn is_outcome(image: OutcomeImage) -> bool
 pub fn outcome_of(image: OutcomeImage) -> Outcome
     ensures { result ≡ outcome_of image.number }
 {
-    let number = image.number;
-    if number == 0 {
-        return Outcome::Success;
+    match image.number {
+        0 => Outcome::Success,
+        1 => Outcome::More,
+        _ => Outcome::Failure,
     }
-    if number == 1 {
-        return Outcome::More;
-    }
-    Outcome::Failure
 }

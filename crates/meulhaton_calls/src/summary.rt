@@ -1,45 +1,27 @@
-// Summaries by their numbers.
+// Summaries by their numbers. C can pass any numbers, and `summary_of` says what each is taken for, named or not: so it is no TryFrom.
 ghost use Rattle.std.specs.Prelude.{◌≡◌};
 ghost use Rattle.meulhaton_calls.specs.Summaries.{summary_of, is_summary};
 
-use crate::replies;
 use crate::replies::SummaryImage;
 use states::answers::{Failure, Summary};
 
 pub fn summary_of(image: SummaryImage) -> Summary
     ensures { result ≡ summary_of image }
 {
-    let kind = image.kind;
-    let value = image.value;
-    if kind == 1 {
-        return Summary::Ignored;
+    match image.kind {
+        1 => Summary::Ignored,
+        2 => Summary::Success,
+        3 => Summary::HasMore(image.value == 1),
+        4 => Summary::Stream(image.value),
+        5 => Summary::Failure(Failure::StreamsFull),
+        6 => Summary::Failure(Failure::StreamUnknown),
+        _ => Summary::Failure(Failure::EngineFailed),
     }
-    if kind == 2 {
-        return Summary::Success;
-    }
-    if kind == 3 {
-        return Summary::HasMore(value == 1);
-    }
-    if kind == 4 {
-        return Summary::Stream(value);
-    }
-    if kind == 5 {
-        return Summary::Failure(Failure::StreamsFull);
-    }
-    if kind == 6 {
-        return Summary::Failure(Failure::StreamUnknown);
-    }
-    Summary::Failure(Failure::EngineFailed)
 }
 
 // Whether the numbers are those of a summary.
 pub fn is_summary(image: SummaryImage) -> bool
     ensures { result ≡ is_summary image }
 {
-    let summary = summary_of(image);
-    let same = replies::summary_image(summary);
-    if same.kind != image.kind {
-        return false;
-    }
-    same.value == image.value
+    SummaryImage::from(summary_of(image)) == image
 }

@@ -7,66 +7,28 @@ ghost use Rattle.record.specs.Record.{joined, kept};
 ghost use Rattle.record.specs.Calls.{called, nowhere};
 ghost use Rattle.meulhaton_calls.specs.Calls.{unnamed_of, told_reply};
 
-use crate::replies;
 use crate::replies::Reply;
-use record::record::Control;
-use record::{names, rules};
+use record::record::{Control, Queue};
 use refusal::Refusal;
-use states::state;
-use states::state::State;
+use steps::after::After;
+use steps::opening;
 
-// The control after a call, and its reply.
-#[derive(Clone, Copy)]
-pub struct Replied {
-    pub control: Control,
-    pub reply: Reply,
+// What such a report is refused with.
+fn refusal_of(control: Control, streams: &[u64; 8], queue: &Queue) -> Refusal
+    ensures { record { connection = joined control streams.now queue.now; answer = refused (number_of result) 0 } ≡ called nowhere (joined control streams.now queue.now) (unless_defunct (kept (joined control streams.now queue.now)) (refused 19 0)) }
+{
+    match opening::state_of(control, streams, queue) {
+        Ok(_) => Refusal::UnexpectedReport,
+        Err(why) => why,
+    }
 }
 
-fn refusal_of(
-    control: Control,
-    streams: &[u64; 8],
-    kinds: &[u8; 32],
-    counts: &[i64; 32],
-    qids: &[i64; 32],
-) -> Refusal
-    ensures { record { connection = joined control streams.now kinds.now counts.now qids.now; answer = refused (number_of result) 0 } ≡ called nowhere (joined control streams.now kinds.now counts.now qids.now) (unless_defunct (kept (joined control streams.now kinds.now counts.now qids.now)) (refused 19 0)) }
+pub fn step(control: Control, streams: &[u64; 8], queue: &Queue) -> After<Reply>
+    ensures { told_reply result streams.now queue.now ≡ unnamed_of (joined control streams.now queue.now) }
 {
-    let keeps = rules::keeps_rules(
-        control.state,
-        control.in_flight,
-        control.first,
-        control.waiting,
-        control.opened,
-        control.next,
-        control.accepted,
-        control.sent,
-        streams,
-        kinds,
-        counts,
-        qids,
-    );
-    if !keeps {
-        return Refusal::InvalidRecord;
-    }
-    let state = names::state_of(control.state);
-    if state::is_in(state, State::Defunct) {
-        return Refusal::ConnectionDefunct;
-    }
-    Refusal::UnexpectedReport
-}
-
-pub fn step(
-    control: Control,
-    streams: &[u64; 8],
-    kinds: &[u8; 32],
-    counts: &[i64; 32],
-    qids: &[i64; 32],
-) -> Replied
-    ensures { told_reply result streams.now kinds.now counts.now qids.now ≡ unnamed_of (joined control streams.now kinds.now counts.now qids.now) }
-{
-    let why = refusal_of(control, streams, kinds, counts, qids);
-    Replied {
-        control: control,
-        reply: replies::refuse(why),
+    let why = refusal_of(control, streams, queue);
+    After {
+        control,
+        answer: Reply::from(why),
     }
 }

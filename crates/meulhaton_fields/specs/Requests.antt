@@ -1,13 +1,7 @@
 -- A request read, as numbers: document 01, "Requests". Assumes nothing.
-use Rattle.std.specs.Prelude.{ℕ, pos}
+use Rattle.std.specs.Prelude.{ℕ, pos, ℤ, Option, Some, None}
 use Rattle.refusal.specs.Answer.{Answer, returned, refused}
-use Rattle.entries.specs.declared.view.Span.{Span}
-use Rattle.entries.specs.declared.view.Text.{Text}
-use Rattle.entries.specs.declared.view.Text.TheVariants as T
-use Rattle.entries.specs.declared.view.Place.{Place}
-use Rattle.entries.specs.declared.view.Place.TheVariants as P
-use Rattle.requests.specs.declared.request.Number.{Number}
-use Rattle.requests.specs.declared.request.Number.TheVariants as N
+use Rattle.markers.specs.declared.extent.Span.{Span}
 use Rattle.entries.specs.declared.view.Mode.{Mode}
 use Rattle.entries.specs.declared.view.Mode.TheVariants as M
 use Rattle.requests.specs.declared.request.Transaction.{Transaction}
@@ -43,33 +37,33 @@ abbrev pub span_image : Span → TextImage
 span_image s = record { present = 1; start = s.start; size = s.size }
 
 -- a String
-abbrev pub text_image : Text → TextImage
-text_image T.Absent = record { present = 0; start = 0; size = 0 }
-text_image (T.At s) = span_image s
+abbrev pub text_image : Option Span → TextImage
+text_image None = record { present = 0; start = 0; size = 0 }
+text_image (Some s) = span_image s
 
 -- the offset of a marker
 abbrev pub placed : ℕ → PlaceImage
 placed offset = record { present = 1; offset = offset }
 
 -- a List or a Dictionary
-abbrev pub place_image : Place → PlaceImage
-place_image P.Absent = record { present = 0; offset = 0 }
-place_image (P.At offset) = placed offset
+abbrev pub place_image : Option ℕ → PlaceImage
+place_image None = record { present = 0; offset = 0 }
+place_image (Some offset) = placed offset
 
 -- an Integer
-abbrev pub number_image : Number → NumberImage
-number_image N.Absent = record { present = 0; value = pos 0 }
-number_image (N.Is z) = record { present = 1; value = z }
+abbrev pub number_image : Option ℤ → NumberImage
+number_image None = record { present = 0; value = pos 0 }
+number_image (Some z) = record { present = 1; value = z }
 
 -- "r" is 1, "w" is 2
-abbrev pub mode_number : Mode → ℕ
-mode_number M.Absent = 0
-mode_number M.Read = 1
-mode_number M.Write = 2
+abbrev pub mode_number : Option Mode → ℕ
+mode_number None = 0
+mode_number (Some M.Read) = 1
+mode_number (Some M.Write) = 2
 
 -- ---- the fields of each request
 -- HELLO
-abbrev pub hello_image : Span → Text → Text → Text → Place → HelloImage
+abbrev pub hello_image : Span → Option Span → Option Span → Option Span → Option ℕ → HelloImage
 hello_image agent scheme principal credentials routing = record {
   user_agent = span_image agent;
   scheme = text_image scheme;
@@ -80,11 +74,11 @@ hello_image agent scheme principal credentials routing = record {
 
 abbrev pub no_hello : HelloImage
 no_hello = record {
-  user_agent = text_image T.Absent;
-  scheme = text_image T.Absent;
-  principal = text_image T.Absent;
-  credentials = text_image T.Absent;
-  routing = place_image P.Absent;
+  user_agent = text_image None;
+  scheme = text_image None;
+  principal = text_image None;
+  credentials = text_image None;
+  routing = place_image None;
 }
 
 -- RUN
@@ -92,7 +86,7 @@ abbrev pub run_image : Span → ℕ → RunImage
 run_image query parameters = record { query = span_image query; parameters = placed parameters }
 
 abbrev pub no_run : RunImage
-no_run = record { query = text_image T.Absent; parameters = place_image P.Absent }
+no_run = record { query = text_image None; parameters = place_image None }
 
 -- RUN and BEGIN
 abbrev pub transaction_image : Transaction → TransactionImage
@@ -105,7 +99,7 @@ transaction_image t = record {
 }
 
 abbrev pub no_transaction : TransactionImage
-no_transaction = transaction_image (record { bookmarks = P.Absent; tx_timeout = N.Absent; tx_metadata = P.Absent; mode = M.Absent; db = T.Absent })
+no_transaction = transaction_image (record { bookmarks = None; tx_timeout = None; tx_metadata = None; mode = None; db = None })
 
 abbrev pub no_fields : FieldsImage
 no_fields = record { hello = no_hello; run = no_run; transaction = no_transaction }

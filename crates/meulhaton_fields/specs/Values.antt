@@ -1,7 +1,7 @@
 -- A value read, as numbers. Assumes nothing.
 use Rattle.std.specs.Prelude.{ℕ, cond, ℤ, pos}
 use Rattle.refusal.specs.Answer.{Answer, returned, refused}
-use Rattle.values.specs.Reading.{Found}
+use Rattle.values.specs.declared.read.Found.{Found}
 use Rattle.values.specs.declared.head.Head.{Head}
 use Rattle.values.specs.declared.head.Head.TheVariants as H
 use Rattle.meulhaton_fields.specs.declared.value.HeadImage.{HeadImage}

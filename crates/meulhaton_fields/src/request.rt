@@ -1,21 +1,17 @@
-// Requests, as numbers: the request as the connection is told of it, and its fields.
+// Requests, as numbers: the request as the connection is told of it, and its fields. C has no Result and no enum with fields: a kind is its tag,
+// and `refusal` is 0 where there is none.
 ghost use Rattle.std.specs.Prelude.{◌≡◌};
-ghost use Rattle.refusal.specs.Numbers.{number_of};
-ghost use Rattle.refusal.specs.Answer.{refused};
-ghost use Rattle.requests.specs.Requests.{told};
+ghost use Rattle.refusal.specs.Answer.{told_at};
 ghost use Rattle.meulhaton_fields.specs.Requests.{bare, request_image, request_answer};
 
-use crate::fields;
 use crate::fields::FieldsImage;
 use record::names;
-use refusal::Refusal;
-use requests::request::Reading;
-use states::request;
+use refusal::Fault;
 use states::request::Request;
 
 // A request: its tag, and n and qid of DISCARD and PULL.
 #[repr(C)]
-#[derive(Clone, Copy)]
+#[derive(Clone, Copy, Debug, PartialEq, Eq)]
 pub struct RequestImage {
     pub n: i64,
     pub qid: i64,
@@ -24,7 +20,7 @@ pub struct RequestImage {
 
 // A request, as the connection is told of it, and its fields; or the refusal.
 #[repr(C)]
-#[derive(Clone, Copy)]
+#[derive(Clone, Copy, Debug, PartialEq, Eq)]
 pub struct RequestRead {
     pub refusal: u8,
     pub place: u64,
@@ -36,59 +32,39 @@ pub struct RequestRead {
 pub fn bare(kind: u8) -> RequestImage
     ensures { result ≡ bare kind }
 {
-    RequestImage {
-        kind: kind,
-        n: 0,
-        qid: 0,
+    RequestImage { kind, n: 0, qid: 0 }
+}
+
+impl From<Request> for RequestImage {
+    ghost from_gives = { λ request image. image ≡ request_image request };
+
+    fn from(request: Request) -> RequestImage {
+        let (n, qid) = names::numbers_of(request);
+        RequestImage {
+            kind: request.tag(),
+            n,
+            qid,
+        }
     }
 }
 
-pub fn request_image(request: Request) -> RequestImage
-    ensures { result ≡ request_image request }
-{
-    let kind = request::tag(request);
-    let n = names::count_of(request);
-    let qid = names::qid_of(request);
-    RequestImage {
-        kind: kind,
-        n: n,
-        qid: qid,
-    }
-}
+impl From<Result<requests::request::Request, Fault>> for RequestRead {
+    ghost from_gives = { λ found answer. answer ≡ request_answer (told_at found) };
 
-pub fn refuse(refusal: Refusal, place: usize) -> RequestRead
-    ensures { result ≡ request_answer (refused (number_of refusal) place) }
-{
-    let number = refusal.number();
-    let request = bare(0);
-    let fields = fields::no_fields();
-    RequestRead {
-        refusal: number,
-        place: place as u64,
-        request: request,
-        fields: fields,
-    }
-}
-
-pub fn request_answer(reading: Reading) -> RequestRead
-    ensures { result ≡ request_answer (told reading) }
-{
-    match reading {
-        Reading::Request(request) => {
-            let arriving = summaries::arrival::arrival_of(request);
-            let image = request_image(arriving);
-            let fields = fields::fields_of(request);
-            RequestRead {
+    fn from(found: Result<requests::request::Request, Fault>) -> RequestRead {
+        match found {
+            Ok(request) => RequestRead {
                 refusal: 0,
                 place: 0,
-                request: image,
-                fields: fields,
-            }
-        }
-        Reading::Refused(fault) => {
-            let refusal = fault.refusal;
-            let place = fault.place;
-            refuse(refusal, place)
+                request: summaries::arrival::arrival_of(request).into(),
+                fields: request.into(),
+            },
+            Err(fault) => RequestRead {
+                refusal: fault.refusal.number(),
+                place: fault.place as u64,
+                request: bare(0),
+                fields: FieldsImage::default(),
+            },
         }
     }
 }

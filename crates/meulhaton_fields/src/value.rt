@@ -1,15 +1,16 @@
-// Values read, as numbers.
+// Values read, as numbers: C has no Result and no enum with fields.
 ghost use Rattle.std.specs.Prelude.{◌≡◌};
-ghost use Rattle.values.specs.Reading.{told};
+ghost use Rattle.refusal.specs.Answer.{told_at};
 ghost use Rattle.meulhaton_fields.specs.Values.{plain, lying, head_image, value_answer};
 
+use refusal::Fault;
 use values::head::Head;
-use values::read::Reading;
+use values::read::Found;
 
 // What a value is: Null 1, Boolean 2, Integer 3, Float 4, Bytes 5, String 6, List 7, Dictionary 8, Structure 9; then what it holds.
 // `start` and `size`: where the content of Bytes or a String lies; or the marker of the first item, entry or field, and how many they are.
 #[repr(C)]
-#[derive(Clone, Copy)]
+#[derive(Clone, Copy, Debug, PartialEq, Eq)]
 pub struct HeadImage {
     pub kind: u8,
     pub boolean: u8,
@@ -22,7 +23,7 @@ pub struct HeadImage {
 
 // A value and the offset past it, or the refusal.
 #[repr(C)]
-#[derive(Clone, Copy)]
+#[derive(Clone, Copy, Debug, PartialEq, Eq)]
 pub struct ValueRead {
     pub refusal: u8,
     pub place: u64,
@@ -35,11 +36,11 @@ fn plain(kind: u8, boolean: u8, integer: i64, bits: u64) -> HeadImage
     ensures { result ≡ plain kind boolean integer bits }
 {
     HeadImage {
-        kind: kind,
-        boolean: boolean,
+        kind,
+        boolean,
         tag: 0,
-        integer: integer,
-        bits: bits,
+        integer,
+        bits,
         start: 0,
         size: 0,
     }
@@ -50,9 +51,9 @@ fn lying(kind: u8, tag: u8, start: usize, size: usize) -> HeadImage
     ensures { result ≡ lying kind tag start size }
 {
     HeadImage {
-        kind: kind,
+        kind,
         boolean: 0,
-        tag: tag,
+        tag,
         integer: 0,
         bits: 0,
         start: start as u64,
@@ -60,44 +61,41 @@ fn lying(kind: u8, tag: u8, start: usize, size: usize) -> HeadImage
     }
 }
 
-fn head_image(head: Head) -> HeadImage
-    ensures { result ≡ head_image head }
-{
-    match head {
-        Head::Null => plain(1, 0, 0, 0),
-        Head::Boolean(value) => plain(2, value as u8, 0, 0),
-        Head::Integer(number) => plain(3, 0, number, 0),
-        Head::Float(bits) => plain(4, 0, 0, bits),
-        Head::Bytes { start, size } => lying(5, 0, start, size),
-        Head::String { start, size } => lying(6, 0, start, size),
-        Head::List { first, count } => lying(7, 0, first, count),
-        Head::Dictionary { first, count } => lying(8, 0, first, count),
-        Head::Structure { tag, first, count } => lying(9, tag, first, count),
+impl From<Head> for HeadImage {
+    ghost from_gives = { λ head image. image ≡ head_image head };
+
+    fn from(head: Head) -> HeadImage {
+        match head {
+            Head::Null => plain(1, 0, 0, 0),
+            Head::Boolean(value) => plain(2, value as u8, 0, 0),
+            Head::Integer(number) => plain(3, 0, number, 0),
+            Head::Float(bits) => plain(4, 0, 0, bits),
+            Head::Bytes { start, size } => lying(5, 0, start, size),
+            Head::String { start, size } => lying(6, 0, start, size),
+            Head::List { first, count } => lying(7, 0, first, count),
+            Head::Dictionary { first, count } => lying(8, 0, first, count),
+            Head::Structure { tag, first, count } => lying(9, tag, first, count),
+        }
     }
 }
 
-pub fn value_answer(found: Reading) -> ValueRead
-    ensures { result ≡ value_answer (told found) }
-{
-    match found {
-        Reading::Value { head, end } => {
-            let image = head_image(head);
-            ValueRead {
+impl From<Result<Found, Fault>> for ValueRead {
+    ghost from_gives = { λ found answer. answer ≡ value_answer (told_at found) };
+
+    fn from(found: Result<Found, Fault>) -> ValueRead {
+        match found {
+            Ok(Found { head, end }) => ValueRead {
                 refusal: 0,
                 place: 0,
                 end: end as u64,
-                head: image,
-            }
-        }
-        Reading::Refused { refusal, place } => {
-            let number = refusal.number();
-            let none = plain(0, 0, 0, 0);
-            ValueRead {
-                refusal: number,
+                head: head.into(),
+            },
+            Err(Fault { refusal, place }) => ValueRead {
+                refusal: refusal.number(),
                 place: place as u64,
                 end: 0,
-                head: none,
-            }
+                head: plain(0, 0, 0, 0),
+            },
         }
     }
 }

@@ -6,19 +6,19 @@ use Prim.Native.Nat.{ℕ, ◌+◌, ◌-◌, ◌^◌, ◌≤◌, ◌<◌}
 use native.Mathlib.Omega.{arith}
 use lib.Dec.{eqb, leb, lit≤}
 use lib.IntN.{ℤ}
+use Rattle.std.specs.Prelude.{Result, Ok, Err}
 use lib.ListN.{length}
-use borrow.Author.Tests.{not-true, not-false, eqb-true, ltb-true, lt-ltb, le-ltb, le-leb, lt-leb, leb-true, leb-false}
+use borrow.Author.Tests.{not-true, not-false, eqb-true, ltb-true, le-leb, lt-leb, leb-true, leb-false}
 use Rattle.slices.specs.Parts.{part, reaches}
 use Rattle.slices.proofs.Parts.{bytes-part, reaches-yes, reaches-no, reaches-le, reaches-lt, length_part}
 use Rattle.numbers.specs.BigEndian.{big_endian, Bytes, holds}
 use Rattle.numbers.specs.TwosComplement.{twos}
 use Rattle.numbers.specs.Access.{is_width, unsigned_at, signed_at, signed_of, storing}
-use Rattle.numbers.specs.declared.Unsigned.{Unsigned}
-use Rattle.numbers.specs.declared.Unsigned.TheVariants as U
-use Rattle.numbers.specs.declared.Signed.TheVariants as S
-use Rattle.numbers.specs.declared.Stored.{Stored}
-use Rattle.numbers.specs.declared.Stored.TheVariants.{Written, OutOfRange, OutOfBounds, InvalidWidth}
-use Rattle.numbers.proofs.BigEndian.{big_lt, pow256-pos}
+use Rattle.numbers.specs.declared.ReadError.{ReadError}
+use Rattle.numbers.specs.declared.ReadError.TheVariants as R
+use Rattle.numbers.specs.declared.WriteError.{WriteError}
+use Rattle.numbers.specs.declared.WriteError.TheVariants.{OutOfRange, OutOfBounds, InvalidWidth}
+use Rattle.numbers.proofs.BigEndian.{big_lt}
 
 -- ---- the tests of the code
 -- a test made by `!` that is taken, and one that is not
@@ -70,23 +70,23 @@ pub record Lies (s : List ℕ) (at k : ℕ) : Type 0 where
 -- ---- the answers of an unsigned read
 module _ (s : List ℕ) (at k : ℕ) where
   -- what leads to each
-  pub unsigned-number : Lies s at k → U.Number (big_endian (part s at k)) ≡ unsigned_at s at k
+  pub unsigned-number : Lies s at k → Ok (big_endian (part s at k)) ≡ unsigned_at s at k
   unfolding unsigned_at
   unsigned-number l = rw (l.width, reaches-yes s at k l.inside)
 
-  pub unsigned-beyond : is_width k ≡ true → length s < at + k → U.OutOfBounds ≡ unsigned_at s at k
+  pub unsigned-beyond : is_width k ≡ true → length s < at + k → Err R.OutOfBounds ≡ unsigned_at s at k
   unfolding unsigned_at
   unsigned-beyond w h = rw (w, reaches-no s at k h)
 
-  pub unsigned-invalid : is_width k ≡ false → U.InvalidWidth ≡ unsigned_at s at k
+  pub unsigned-invalid : is_width k ≡ false → Err R.InvalidWidth ≡ unsigned_at s at k
   unfolding unsigned_at
   unsigned-invalid w = rw w
 
   -- what each tells
-  pub data UnsignedTells : Unsigned → Type 0 where
-    number : {n : ℕ} → n ≡ big_endian (part s at k) → Lies s at k → UnsignedTells (U.Number n)
-    beyond : is_width k ≡ true → length s < at + k → UnsignedTells U.OutOfBounds
-    invalid : is_width k ≡ false → UnsignedTells U.InvalidWidth
+  pub data UnsignedTells : Result ℕ ReadError → Type 0 where
+    number : {n : ℕ} → n ≡ big_endian (part s at k) → Lies s at k → UnsignedTells (Ok n)
+    beyond : is_width k ≡ true → length s < at + k → UnsignedTells (Err R.OutOfBounds)
+    invalid : is_width k ≡ false → UnsignedTells (Err R.InvalidWidth)
 
   pub unsigned-tells : UnsignedTells (unsigned_at s at k)
   unsigned-tells = by_width (is_width k) refl
@@ -101,16 +101,16 @@ module _ (s : List ℕ) (at k : ℕ) where
       by_width true w = by-reach (reaches s at k) refl w
       by_width false w = subst UnsignedTells (unsigned-invalid w) (invalid w)
 
-  pub unsigned-found : (n : ℕ) → U.Number n ≡ unsigned_at s at k → (n ≡ big_endian (part s at k)) × Lies s at k
+  pub unsigned-found : (n : ℕ) → Ok n ≡ unsigned_at s at k → (n ≡ big_endian (part s at k)) × Lies s at k
   unsigned-found n e = told (subst UnsignedTells (sym e) unsigned-tells)
     where
-      told : UnsignedTells (U.Number n) → (n ≡ big_endian (part s at k)) × Lies s at k
+      told : UnsignedTells (Ok n) → (n ≡ big_endian (part s at k)) × Lies s at k
       told (number e l) = (e, l)
 
-  pub unsigned-short : U.OutOfBounds ≡ unsigned_at s at k → length s < at + k
+  pub unsigned-short : Err R.OutOfBounds ≡ unsigned_at s at k → length s < at + k
   unsigned-short e = told (subst UnsignedTells (sym e) unsigned-tells)
     where
-      told : UnsignedTells U.OutOfBounds → length s < at + k
+      told : UnsignedTells (Err R.OutOfBounds) → length s < at + k
       told (beyond w h) = h
 
   -- a number that lies in bytes is below 256 to its width
@@ -124,28 +124,28 @@ clash e = omega arith
 
 module _ (s : List ℕ) (at k : ℕ) where
   -- what leads to each
-  pub signed-number : Lies s at k → S.Number (twos k (big_endian (part s at k))) ≡ signed_at s at k
+  pub signed-number : Lies s at k → Ok (twos k (big_endian (part s at k))) ≡ signed_at s at k
   signed-number l = ap (signed_of k) (unsigned-number s at k l)
 
-  pub signed-beyond : is_width k ≡ true → length s < at + k → S.OutOfBounds ≡ signed_at s at k
+  pub signed-beyond : is_width k ≡ true → length s < at + k → Err R.OutOfBounds ≡ signed_at s at k
   signed-beyond w h = ap (signed_of k) (unsigned-beyond s at k w h)
 
-  pub signed-invalid : is_width k ≡ false → S.InvalidWidth ≡ signed_at s at k
+  pub signed-invalid : is_width k ≡ false → Err R.InvalidWidth ≡ signed_at s at k
   signed-invalid w = ap (signed_of k) (unsigned-invalid s at k w)
 
   -- what each tells
-  pub signed-found : (z : ℤ) → S.Number z ≡ signed_at s at k → (z ≡ twos k (big_endian (part s at k))) × Lies s at k
+  pub signed-found : (z : ℤ) → Ok z ≡ signed_at s at k → (z ≡ twos k (big_endian (part s at k))) × Lies s at k
   signed-found z e = told (unsigned-tells s at k) e
     where
-      told : {u : Unsigned} → UnsignedTells s at k u → S.Number z ≡ signed_of k u → (z ≡ twos k (big_endian (part s at k))) × Lies s at k
-      told (number {n} f l) e = (let g : S.Number z ≡ S.Number (twos k n) = e in let h : z ≡ twos k n = cc in h ∙ ap (twos k) f, l)
+      told : {u : Result ℕ ReadError} → UnsignedTells s at k u → Ok z ≡ signed_of k u → (z ≡ twos k (big_endian (part s at k))) × Lies s at k
+      told (number {n} f l) e = (let g : ◌≡◌ {A = Result ℤ ReadError} (Ok z) (Ok (twos k n)) = e in let h : z ≡ twos k n = cc in h ∙ ap (twos k) f, l)
       told (beyond w h) e = absurd (clash (cc))
       told (invalid w) e = absurd (clash (cc))
 
-  pub signed-short : S.OutOfBounds ≡ signed_at s at k → length s < at + k
+  pub signed-short : Err R.OutOfBounds ≡ signed_at s at k → length s < at + k
   signed-short e = told (unsigned-tells s at k) e
     where
-      told : {u : Unsigned} → UnsignedTells s at k u → S.OutOfBounds ≡ signed_of k u → length s < at + k
+      told : {u : Result ℕ ReadError} → UnsignedTells s at k u → Err R.OutOfBounds ≡ signed_of k u → length s < at + k
       told (number f l) e = absurd (clash (cc))
       told (beyond w h) e = h
       told (invalid w) e = absurd (clash (cc))
@@ -153,32 +153,32 @@ module _ (s : List ℕ) (at k : ℕ) where
 -- ---- the answers of a write
 module _ (held : Bool) (d : List ℕ) (at k : ℕ) where
   -- what leads to each
-  pub storing-invalid : is_width k ≡ false → InvalidWidth ≡ storing held d at k
+  pub storing-invalid : is_width k ≡ false → Err InvalidWidth ≡ storing held d at k
   unfolding storing
   storing-invalid w = rw w
 
-  pub storing-range : is_width k ≡ true → held ≡ false → OutOfRange ≡ storing held d at k
+  pub storing-range : is_width k ≡ true → held ≡ false → Err OutOfRange ≡ storing held d at k
   unfolding storing
   storing-range w r = rw (w, r)
 
-  pub storing-held : is_width k ≡ true → held ≡ true → cond (reaches d at k) Written OutOfBounds ≡ storing held d at k
+  pub storing-held : is_width k ≡ true → held ≡ true → cond (reaches d at k) (Ok tt) (Err OutOfBounds) ≡ storing held d at k
   unfolding storing
   storing-held w r = rw (w, r)
 
-  pub storing-beyond : is_width k ≡ true → held ≡ true → length d < at + k → OutOfBounds ≡ storing held d at k
+  pub storing-beyond : is_width k ≡ true → held ≡ true → length d < at + k → Err OutOfBounds ≡ storing held d at k
   unfolding storing
   storing-beyond w r h = rw (w, r, reaches-no d at k h)
 
-  pub storing-written : held ≡ true → Lies d at k → Written ≡ storing held d at k
+  pub storing-written : held ≡ true → Lies d at k → Ok tt ≡ storing held d at k
   unfolding storing
   storing-written r l = rw (l.width, r, reaches-yes d at k l.inside)
 
   -- what each tells
-  pub data StoringTells : Stored → Type 0 where
-    written : held ≡ true → Lies d at k → StoringTells Written
-    range : is_width k ≡ true → held ≡ false → StoringTells OutOfRange
-    beyond : is_width k ≡ true → held ≡ true → length d < at + k → StoringTells OutOfBounds
-    invalid : is_width k ≡ false → StoringTells InvalidWidth
+  pub data StoringTells : Result Unit WriteError → Type 0 where
+    written : held ≡ true → Lies d at k → StoringTells (Ok tt)
+    range : is_width k ≡ true → held ≡ false → StoringTells (Err OutOfRange)
+    beyond : is_width k ≡ true → held ≡ true → length d < at + k → StoringTells (Err OutOfBounds)
+    invalid : is_width k ≡ false → StoringTells (Err InvalidWidth)
 
   pub storing-tells : StoringTells (storing held d at k)
   storing-tells = by_width (is_width k) refl
@@ -197,18 +197,12 @@ module _ (held : Bool) (d : List ℕ) (at k : ℕ) where
       by_width true w = by-range held refl w
       by_width false w = subst StoringTells (storing-invalid w) (invalid w)
 
-  pub storing-done : Written ≡ storing held d at k → (held ≡ true) × Lies d at k
+  pub storing-done : Ok tt ≡ storing held d at k → (held ≡ true) × Lies d at k
   storing-done e = told (subst StoringTells (sym e) storing-tells)
     where
-      told : StoringTells Written → (held ≡ true) × Lies d at k
+      told : StoringTells (Ok tt) → (held ≡ true) × Lies d at k
       told (written r l) = (r, l)
 
--- a number is at most the largest of its width exactly if the width holds it
-pub holds-yes : (k n : ℕ) → n ≤ 256 ^ k - 1 → holds k n ≡ true
-holds-yes k n h = lt-ltb n (256 ^ k) (omega (arith, pow256-pos k))
-
-pub holds-no : (k n : ℕ) → 256 ^ k - 1 < n → holds k n ≡ false
-holds-no k n h = le-ltb n (256 ^ k) (omega arith)
-
+-- the width holds the number
 pub holds-lt : (k n : ℕ) → holds k n ≡ true → n < 256 ^ k
 holds-lt k n e = ltb-true n (256 ^ k) e

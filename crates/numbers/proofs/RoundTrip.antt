@@ -4,6 +4,7 @@ use mathlib.Core.Bool.{true}
 use mathlib.Core.List.{List}
 use Prim.Native.Nat.{ℕ, ◌^◌, ◌≤◌, ◌<◌}
 use lib.IntN.{ℤ}
+use Rattle.std.specs.Prelude.{Ok}
 use lib.ListN.{length}
 use lib.Seq.{sets, length-sets}
 use Rattle.slices.specs.Parts.{part}
@@ -12,8 +13,6 @@ use Rattle.numbers.specs.BigEndian.{big_endian, bytes_of, holds, Bytes}
 use Rattle.numbers.specs.TwosComplement.{twos, bits_of, fits_in}
 use Rattle.numbers.specs.Access.{unsigned_at, signed_at, signed_of}
 use Rattle.numbers.specs.RoundTrip.{Claim}
-use Rattle.numbers.specs.declared.Unsigned.TheVariants as U
-use Rattle.numbers.specs.declared.Signed.TheVariants as S
 use Rattle.numbers.proofs.BigEndian.{big_lt, length-bytes_of, read_back, write-back}
 use Rattle.numbers.proofs.TwosComplement.{bits-lt, twos-bits, bits-twos}
 use Rattle.numbers.proofs.Access.{Lies, width-least, unsigned-number, storing-done, holds-lt}
@@ -30,19 +29,19 @@ module _ (k : ℕ) where
       ap (bytes_of k) (bits-twos k (big_endian v) (subst (λ (j : ℕ). big_endian v < 256 ^ j) e (big_lt v b))) ∙ bytes_back v e b
 
   -- a slice into which the bytes of a number were written holds that number
-  pub stored-number : (d : List ℕ) (at n : ℕ) → n < 256 ^ k → Lies d at k → unsigned_at (sets d at (bytes_of k n)) at k ≡ U.Number n
+  pub stored-number : (d : List ℕ) (at n : ℕ) → n < 256 ^ k → Lies d at k → unsigned_at (sets d at (bytes_of k n)) at k ≡ Ok n
   stored-number d at n h l =
       let v = bytes_of k n in
       let e : length v ≡ k = length-bytes_of k n in
       let m : length (sets d at v) ≡ length d = length-sets d at v in
       sym (unsigned-number (sets d at v) at k (record { width = l.width; inside = rw m l.inside }))
-      ∙ ap U.Number (ap big_endian (subst (λ (j : ℕ). part (sets d at v) at j ≡ v) e (part-sets d at v (rw e l.inside))) ∙ read_back k n h)
+      ∙ ap Ok (ap big_endian (subst (λ (j : ℕ). part (sets d at v) at j ≡ v) e (part-sets d at v (rw e l.inside))) ∙ read_back k n h)
 
   -- the same of an integer
   pub stored-integer : (d : List ℕ) (at : ℕ) (z : ℤ) → fits_in k z ≡ true → Lies d at k
-      → signed_at (sets d at (bytes_of k (bits_of k z))) at k ≡ S.Number z
+      → signed_at (sets d at (bytes_of k (bits_of k z))) at k ≡ Ok z
   stored-integer d at z e l =
-      ap (signed_of k) (stored-number d at (bits_of k z) (bits-lt k z e) l) ∙ ap S.Number (twos-bits k z (width-least k l.width) e)
+      ap (signed_of k) (stored-number d at (bits_of k z) (bits-lt k z e) l) ∙ ap Ok (twos-bits k z (width-least k l.width) e)
 
 pub round_trip : Claim
 round_trip k =

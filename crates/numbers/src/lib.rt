@@ -1,5 +1,6 @@
 // Numbers in byte slices, the highest byte first: unsigned, as sizes are stored, and in two's complement, as integers are
-// (document 01, "Values"). A number is 1, 2, 4 or 8 bytes wide; one loop reads every width, and one writes it.
+// (document 01, "Values"). A number is 1, 2, 4 or 8 bytes wide; one loop reads every width, and one copy writes it. Slice, offset and width
+// stay three parameters: each call has its own offset and width, and a struct of them would be made for that call alone.
 #![tactic(auto)]
 
 ghost use Rattle.std.specs.Prelude.{◌≡◌, ◌+◌, ◌-◌, ◌^◌, ◌≤◌, ◌<◌, true, cond, ◌&&◌, leb};
@@ -9,30 +10,18 @@ ghost use Rattle.numbers.specs.BigEndian.{bytes_of, holds};
 ghost use Rattle.numbers.specs.TwosComplement.{twos, bits_of, fits_in};
 ghost use Rattle.numbers.specs.Access.{is_width, unsigned_at, signed_at, storing, stored};
 
-// What a read of an unsigned number finds.
-#[derive(Clone, Copy)]
-pub enum Unsigned {
-    Number(u64),
+// Why a read found no number.
+#[derive(Clone, Copy, Debug, PartialEq, Eq)]
+pub enum ReadError {
     // The slice ends before the number does.
     OutOfBounds,
     // No number is that wide.
     InvalidWidth,
 }
 
-// What a read of an integer finds.
-#[derive(Clone, Copy)]
-pub enum Signed {
-    Number(i64),
-    // The slice ends before the integer does.
-    OutOfBounds,
-    // No integer is that wide.
-    InvalidWidth,
-}
-
-// What a write did. Anything but `Written` left the slice as it was.
-#[derive(Clone, Copy)]
-pub enum Stored {
-    Written,
+// Why a write left the slice as it was.
+#[derive(Clone, Copy, Debug, PartialEq, Eq)]
+pub enum WriteError {
     // The width cannot hold the number.
     OutOfRange,
     // The slice ends before the number would.
@@ -45,23 +34,14 @@ pub enum Stored {
 fn is_width(width: usize) -> bool
     ensures { result ≡ is_width width }
 {
-    match width {
-        1 => true,
-        2 => true,
-        4 => true,
-        8 => true,
-        _ => false,
-    }
+    matches!(width, 1 | 2 | 4 | 8)
 }
 
 // Whether a slice of that length has `width` bytes from `at` on.
 pub fn in_bounds(length: usize, at: usize, width: usize) -> bool
     ensures { result ≡ leb (at + width) length }
 {
-    if length < at {
-        return false;
-    }
-    width <= length - at
+    at <= length && width <= length - at
 }
 
 // The largest unsigned number of a width.
@@ -69,57 +49,56 @@ fn largest(width: usize) -> u64
     requires { (1 ≤ width) × (width ≤ 8) }
     ensures { result ≡ 256 ^ width - 1 }
 {
-    0xFFFF_FFFF_FFFF_FFFF >> (64 - 8 * width)
+    u64::MAX >> (64 - 8 * width)
 }
 
 // The unsigned number in the `width` bytes from `at` on.
-pub fn read_unsigned(bytes: &[u8], at: usize, width: usize) -> Unsigned
+#[tactic(auto, unfolding(crate::specs::Access::unsigned_at))]
+pub fn read_unsigned(bytes: &[u8], at: usize, width: usize) -> Result<u64, ReadError>
     ensures { result ≡ unsigned_at bytes.now at width }
 {
     if !is_width(width) {
-        return Unsigned::InvalidWidth;
+        return Err(ReadError::InvalidWidth);
     }
     if !in_bounds(bytes.len(), at, width) {
-        return Unsigned::OutOfBounds;
+        return Err(ReadError::OutOfBounds);
     }
-    let mut number: u64 = 0;
-    let mut i: usize = 0;
-    while i < width {
-        number = number * 256 + (bytes[at + i] as u64);
-        i += 1;
+    let mut number = 0;
+    for byte in &bytes[at..at + width] {
+        number = number * 256 + *byte as u64;
     }
-    Unsigned::Number(number)
+    Ok(number)
 }
 
 // Stores the `width` lowest bytes of `number` from `at` on, if the slice reaches that far.
-fn store(bytes: &mut [u8], at: usize, width: usize, number: u64) -> Stored
+fn store(bytes: &mut [u8], at: usize, width: usize, number: u64) -> Result<(), WriteError>
     requires { width ≤ 8 }
-    ensures answer { result ≡ cond (reaches bytes.old at width) Stored.Written Stored.OutOfBounds }
+    ensures answer { result ≡ cond (reaches bytes.old at width) (Ok tt) (Err WriteError.OutOfBounds) }
     ensures filled { bytes.new ≡ stored result bytes.old at (bytes_of width number) }
 {
     if !in_bounds(bytes.len(), at, width) {
-        return Stored::OutOfBounds;
+        return Err(WriteError::OutOfBounds);
     }
-    let mut left = width;
-    let mut i = at;
-    while 0 < left {
-        left -= 1;
-        bytes[i] = ((number >> (8 * left)) % 256) as u8;
-        i += 1;
-    }
-    Stored::Written
+    bytes[at..at + width].copy_from_slice(&number.to_be_bytes()[8 - width..]);
+    Ok(())
 }
 
 // Writes `number` into the `width` bytes from `at` on. The width is checked first, then the number's range, then the bounds.
-pub fn write_unsigned(bytes: &mut [u8], at: usize, width: usize, number: u64) -> Stored
+#[tactic(auto, unfolding(crate::specs::Access::storing))]
+pub fn write_unsigned(
+    bytes: &mut [u8],
+    at: usize,
+    width: usize,
+    number: u64,
+) -> Result<(), WriteError>
     ensures answer { result ≡ storing (holds width number) bytes.old at width }
     ensures filled { bytes.new ≡ stored result bytes.old at (bytes_of width number) }
 {
     if !is_width(width) {
-        return Stored::InvalidWidth;
+        return Err(WriteError::InvalidWidth);
     }
     if largest(width) < number {
-        return Stored::OutOfRange;
+        return Err(WriteError::OutOfRange);
     }
     store(bytes, at, width, number)
 }
@@ -131,40 +110,31 @@ fn signed_of(number: u64, width: usize) -> i64
 {
     let most = largest(width);
     if number <= most / 2 {
-        return number as i64;
+        number as i64
+    } else {
+        -1 - ((most - number) as i64)
     }
-    -1 - ((most - number) as i64)
 }
 
 // The integer in the `width` bytes from `at` on, in two's complement.
-pub fn read_signed(bytes: &[u8], at: usize, width: usize) -> Signed
+pub fn read_signed(bytes: &[u8], at: usize, width: usize) -> Result<i64, ReadError>
     ensures { result ≡ signed_at bytes.now at width }
 {
-    match read_unsigned(bytes, at, width) {
-        Unsigned::Number(number) => Signed::Number(signed_of(number, width)),
-        Unsigned::OutOfBounds => Signed::OutOfBounds,
-        Unsigned::InvalidWidth => Signed::InvalidWidth,
-    }
+    Ok(signed_of(read_unsigned(bytes, at, width)?, width))
 }
 
 // n for n and for -n - 1, which take the same width.
 fn magnitude(number: i64) -> u64
     ensures { result ≡ mag number }
 {
-    if number < 0 {
-        return (-1 - number) as u64;
-    }
-    number as u64
+    number.max(-1 - number) as u64
 }
 
 // Whether `width` bytes can hold `number`. No width but 1, 2, 4 and 8 can.
 pub fn fits_signed(number: i64, width: usize) -> bool
     ensures { result ≡ (is_width width && fits_in width number) }
 {
-    if !is_width(width) {
-        return false;
-    }
-    magnitude(number) <= largest(width) / 2
+    is_width(width) && magnitude(number) <= largest(width) / 2
 }
 
 // The unsigned number of `width` bytes that stands for `number` in two's complement.
@@ -172,23 +142,25 @@ fn bits_of(number: i64, width: usize) -> u64
     requires { (is_width width ≡ true) × (fits_in width number ≡ true) }
     ensures { result ≡ bits_of width number }
 {
-    let size = magnitude(number);
-    if number < 0 {
-        return largest(width) - size;
-    }
-    size
+    number.cast_unsigned() & largest(width)
 }
 
 // Writes `number` in two's complement into the `width` bytes from `at` on, with the checks of `write_unsigned` in their order.
-pub fn write_signed(bytes: &mut [u8], at: usize, width: usize, number: i64) -> Stored
+#[tactic(auto, unfolding(crate::specs::Access::storing))]
+pub fn write_signed(
+    bytes: &mut [u8],
+    at: usize,
+    width: usize,
+    number: i64,
+) -> Result<(), WriteError>
     ensures answer { result ≡ storing (fits_in width number) bytes.old at width }
     ensures filled { bytes.new ≡ stored result bytes.old at (bytes_of width (bits_of width number)) }
 {
     if !is_width(width) {
-        return Stored::InvalidWidth;
+        return Err(WriteError::InvalidWidth);
     }
     if !fits_signed(number, width) {
-        return Stored::OutOfRange;
+        return Err(WriteError::OutOfRange);
     }
     store(bytes, at, width, bits_of(number, width))
 }

@@ -1,6 +1,6 @@
 -- Laws of the packers: widths, what stands behind a marker, and which answer is given. Assumes nothing.
 use mathlib.Core.Path.{◌≡◌, refl, sym, ap, ◌∙◌}
-use mathlib.Core.Bool.{Bool, true, false, false≢true, not, cond, and-eq-true_iff}
+use mathlib.Core.Bool.{Bool, true, false, not, cond, and-eq-true_iff}
 use mathlib.Core.List.{List, [], ◌∷◌}
 use Prim.Native.Nat.{ℕ, ◌+◌, ◌^◌, ◌≤◌, ◌<◌}
 use native.Mathlib.Numerals.{add-one}
@@ -9,8 +9,7 @@ use lib.Dec.{ltb, leb, eqb}
 use lib.IntN.{ℤ, pos, negsuc}
 use lib.ListN.{length, set, length-set, length-append}
 use lib.Seq.{sets, length-sets, take-length}
-use lib.Signed.{le_z, lt_z}
-use borrow.Author.Tests.{lt-ltb, le-ltb, ltb-true, ltb-false, leb-true, le-leb, lt-leb}
+use borrow.Author.Tests.{lt-ltb, le-ltb, leb-true}
 use mir.Syntax.{w64}
 use mir.Val.{SFits}
 use Rattle.slices.specs.Parts.{reaches, fits, copied}
@@ -18,19 +17,17 @@ use Rattle.slices.proofs.Parts.{reaches-yes, sets-append, fits-yes as both-reach
 use Rattle.numbers.specs.BigEndian.{bytes_of, holds}
 use Rattle.numbers.specs.TwosComplement.{bits_of, fits_in}
 use Rattle.numbers.specs.Access.{is_width, storing, stored}
-use Rattle.numbers.specs.declared.Stored.{Stored}
+use Rattle.numbers.specs.declared.WriteError.{WriteError}
 use Rattle.numbers.proofs.BigEndian.{length-bytes_of}
 use Rattle.numbers.proofs.TwosComplement.{fits-yes}
 use Rattle.numbers.proofs.Access.{every-width, failed, passed, storing-written}
 use Rattle.utf8.specs.Utf8.{utf8}
-use Rattle.refusal.specs.Numbers.{number_of}
-use Rattle.refusal.specs.Answer.{Answer, returned, refused, left}
+use Rattle.refusal.specs.Answer.{Answer, returned, left, told}
 use Rattle.refusal.specs.declared.Refusal.{Refusal}
 use Rattle.refusal.specs.declared.Refusal.TheVariants.{NoRoom}
 use Rattle.bolt.specs.Limits.{most_bytes}
-use Rattle.packing.specs.Packing.{narrowest, doublings, wide, is_tiny, integer_width, pack_integer, size_width, size_header, header_length, pack_boolean, string_header, pack_string, dictionary_header, structure_header, string_form, dictionary_form, structure_form, fitted, leaves, telling, told}
-use Rattle.packing.specs.declared.Packed.{Packed}
-use Rattle.packing.specs.declared.Packed.TheVariants as P
+use Rattle.packing.specs.Packing.{narrowest, doublings, wide, is_tiny, integer_width, pack_integer, size_width, size_header, header_length, pack_boolean, string_header, pack_string, string_form, fitted, leaves, telling}
+use Rattle.std.specs.Prelude.{Result, Ok, Err}
 
 -- ---- the narrowest width that will do
 module _ (f : ℕ → Bool) where
@@ -104,23 +101,8 @@ doublings-most w = by (eqb w 1) (eqb w 2) (eqb w 4)
     by false false false = omega arith
 
 -- ---- Integers
--- the tests of the code for -16 to 127
+-- a byte holds one of -16 to 127
 module _ (z : ℤ) where
-  pub below-tiny : lt_z z (negsuc 15) ≡ true → is_tiny z ≡ false
-  below-tiny e = by z e
-    where
-      by : (z : ℤ) → lt_z z (negsuc 15) ≡ true → is_tiny z ≡ false
-      by (pos n) e = absurd (false≢true e)
-      by (negsuc n) e = rw (lt-leb n 15 (ltb-true 15 n e))
-
-  pub from-tiny : lt_z z (negsuc 15) ≡ false → is_tiny z ≡ le_z z (pos 127)
-  from-tiny e = by z e
-    where
-      by : (z : ℤ) → lt_z z (negsuc 15) ≡ false → is_tiny z ≡ le_z z (pos 127)
-      by (pos n) e = refl
-      by (negsuc n) e = rw (le-leb n 15 (ltb-false 15 n e))
-
-  -- a byte holds it
   pub tiny-fits : is_tiny z ≡ true → fits_in 1 z ≡ true
   tiny-fits e = by z e
     where
@@ -160,9 +142,9 @@ length-tiny z e = ap length (integer-tiny z e) ∙ length-bytes_of 1 (bits_of 1 
 pub length-integer : (z : ℤ) → is_tiny z ≡ false → length (pack_integer z) ≡ 1 + integer_width z
 length-integer z e = ap length (integer-wide z e) ∙ length-wide 0xC8 (integer_width z) (bits_of (integer_width z) z)
 
-pub length-header : (small row n : ℕ) → length (size_header small row n) ≡ header_length n
+pub length_header : (small row n : ℕ) → length (size_header small row n) ≡ header_length n
 unfolding size_header
-length-header small row n = by (ltb n 16)
+length_header small row n = by (ltb n 16)
   where
     by : (b : Bool) → length (cond b ((small + n) ∷ []) (wide row (size_width n) n)) ≡ cond b 1 (1 + size_width n)
     by true = refl
@@ -181,20 +163,20 @@ length-boolean false = refl
 
 -- ---- what a write leaves
 -- a number that its width holds, where there is room
-pub written : (held : Bool) (d : List ℕ) (at w : ℕ) (v : List ℕ) (r : Stored) (e : List ℕ) → held ≡ true → is_width w ≡ true → at + w ≤ length d
+pub written : (held : Bool) (d : List ℕ) (at w : ℕ) (v : List ℕ) (r : Result Unit WriteError) (e : List ℕ) → held ≡ true → is_width w ≡ true → at + w ≤ length d
     → r ≡ storing held d at w → e ≡ stored r d at v → e ≡ sets d at v
 written held d at w v r e h k room p q =
-    q ∙ ap (λ (x : Stored). stored x d at v) (p ∙ sym (storing-written held d at w h (record { width = k; inside = room })))
+    q ∙ ap (λ (x : Result Unit WriteError). stored x d at v) (p ∙ sym (storing-written held d at w h (record { width = k; inside = room })))
 
 -- the same behind its marker
-pub behind : (held : Bool) (d : List ℕ) (at m w : ℕ) (v : List ℕ) (r : Stored) (e : List ℕ) → held ≡ true → is_width w ≡ true
+pub behind : (held : Bool) (d : List ℕ) (at m w : ℕ) (v : List ℕ) (r : Result Unit WriteError) (e : List ℕ) → held ≡ true → is_width w ≡ true
     → at + (1 + w) ≤ length d → r ≡ storing held (set d at m) (at + 1) w → e ≡ stored r (set d at m) (at + 1) v → e ≡ sets d at (m ∷ v)
 behind held d at m w v r e h k room p q =
     written held (set d at m) (at + 1) w v r e h k (omega (arith, length-set d at m)) p q
     ∙ ap (λ (i : ℕ). sets (set d at m) i v) (add-one at)
 
 -- an Integer in its own byte, and behind its marker
-module _ (z : ℤ) (d : List ℕ) (at : ℕ) (r : Stored) (e : List ℕ) (room : at + length (pack_integer z) ≤ length d) where
+module _ (z : ℤ) (d : List ℕ) (at : ℕ) (r : Result Unit WriteError) (e : List ℕ) (room : at + length (pack_integer z) ≤ length d) where
   pub tiny-put : is_tiny z ≡ true → r ≡ storing (fits_in 1 z) d at 1 → e ≡ stored r d at (bytes_of 1 (bits_of 1 z)) → e ≡ sets d at (pack_integer z)
   tiny-put t p q =
       written (fits_in 1 z) d at 1 (bytes_of 1 (bits_of 1 z)) r e (tiny-fits z t) refl (omega (arith, length-tiny z t)) p q
@@ -220,90 +202,56 @@ module _ (small row n : ℕ) (d : List ℕ) (at : ℕ) (room : at + length (size
     pub wide_room : at + (1 + w) ≤ length d
     wide_room = omega (arith, ap length (header-wide small row n h) ∙ length-wide row (size_width n) n, o)
 
-    pub header-put : (r : Stored) (e : List ℕ) → n < 256 ^ 8 → r ≡ storing (holds w n) (set d at (row + doublings w)) (at + 1) w
+    pub header-put : (r : Result Unit WriteError) (e : List ℕ) → n < 256 ^ 8 → r ≡ storing (holds w n) (set d at (row + doublings w)) (at + 1) w
         → e ≡ stored r (set d at (row + doublings w)) (at + 1) (bytes_of w n) → e ≡ sets d at (size_header small row n)
     header-put r e l p q =
         let f : ℕ → Bool = λ k. holds k n in
         behind (holds w n) d at (row + doublings w) w (bytes_of w n) r e (rw o (narrowest-does f (lt-ltb n (256 ^ 8) l))) (rw o (narrowest-width f)) wide_room p q
         ∙ ap (λ (v : List ℕ). sets d at v) (ap (λ (k : ℕ). wide row k n) o ∙ sym (header-wide small row n h))
 
--- a Boolean
-module _ (d : List ℕ) (at : ℕ) (b : Bool) where
-  pub boolean-true : b ≡ true → set d at 0xC3 ≡ sets d at (pack_boolean b)
-  boolean-true e = rw e
-
-  pub boolean-false : b ≡ false → set d at 0xC2 ≡ sets d at (pack_boolean b)
-  boolean-false e = rw e
-
 -- a String behind its header
-module _ (v d : List ℕ) (at h : ℕ) (o : h ≡ header_length (length v)) where
+module _ (v : List ℕ) (h : ℕ) (o : h ≡ header_length (length v)) where
   header_is : h ≡ length (string_header (length v))
-  header_is = o ∙ sym (length-header 0x80 0xD0 (length v))
+  header_is = o ∙ sym (length_header 0x80 0xD0 (length v))
 
   pub length-string : h + length v ≡ length (pack_string v)
   length-string = ap (λ (n : ℕ). n + length v) header_is ∙ sym (length-append (string_header (length v)) v)
 
-  pub string-room : at + (h + length v) ≤ length d → at + length (string_header (length v)) ≤ length d
-  string-room room = omega (arith, header_is)
-
-  pub string-put : (c e : List ℕ) → at + (h + length v) ≤ length d → c ≡ sets d at (string_header (length v)) → e ≡ copied v 0 (length v) c (at + h)
-      → e ≡ sets d at (pack_string v)
-  string-put c e room p q =
-      let f = sets d at (string_header (length v)) in
-      let l : length f ≡ length d = length-sets d at (string_header (length v)) in
-      let y : fits v 0 (length v) f (at + h) ≡ true = both-reach v 0 (length v) f (at + h) (omega arith) (omega (arith, l, room)) in
-      q ∙ rw (p, y, take-length v, header_is) (sets-append (string_header (length v)) v d at)
+  module _ (d : List ℕ) (at : ℕ) where
+    pub string-put : (c e : List ℕ) → at + (h + length v) ≤ length d → c ≡ sets d at (string_header (length v)) → e ≡ copied v 0 (length v) c (at + h)
+        → e ≡ sets d at (pack_string v)
+    string-put c e room p q =
+        let f = sets d at (string_header (length v)) in
+        let l : length f ≡ length d = length-sets d at (string_header (length v)) in
+        let y : fits v 0 (length v) f (at + h) ≡ true = both-reach v 0 (length v) f (at + h) (omega arith) (omega (arith, l, room)) in
+        q ∙ rw (p, y, take-length v, header_is) (sets-append (string_header (length v)) v d at)
 
 -- ---- which form, and which answer
 module _ (v : List ℕ) where
-  pub string-long : most_bytes < length v → string_form v ≡ refused 6 0
-  string-long h = rw (lt-ltb most_bytes (length v) h)
-
-  pub string-invalid : length v ≤ most_bytes → utf8 v ≡ false → string_form v ≡ refused 10 0
-  string-invalid h u = rw (le-ltb most_bytes (length v) h, u)
-
   pub string-formed : length v ≤ most_bytes → utf8 v ≡ true → string_form v ≡ returned (pack_string v)
   string-formed h u = rw (le-ltb most_bytes (length v) h, u)
 
-pub dictionary-long : (n : ℕ) → most_bytes < n → dictionary_form n ≡ refused 6 0
-dictionary-long n h = rw (lt-ltb most_bytes n h)
-
-pub dictionary-formed : (n : ℕ) → n ≤ most_bytes → dictionary_form n ≡ returned (dictionary_header n)
-dictionary-formed n h = rw (le-ltb most_bytes n h)
-
-pub structure-long : (tag n : ℕ) → 15 < n → structure_form tag n ≡ refused 6 0
-structure-long tag n h = rw (lt-ltb 15 n h)
-
-pub structure-formed : (tag n : ℕ) → n ≤ 15 → structure_form tag n ≡ returned (structure_header tag n)
-structure-formed tag n h = rw (le-ltb 15 n h)
-
 -- what a packer owes: its answer, and the buffer
-abbrev pub Packs : List ℕ → ℕ → Answer (List ℕ) → Packed → List ℕ → Type 0
+abbrev pub Packs : List ℕ → ℕ → Answer (List ℕ) → Result ℕ Refusal → List ℕ → Type 0
 Packs d at form r e = (told r ≡ telling at (fitted d at form)) × (e ≡ left (leaves at) (fitted d at form) d)
 
 module _ (d : List ℕ) (at : ℕ) (form : Answer (List ℕ)) where
-  pub refuses : (why : Refusal) → form ≡ refused (number_of why) 0 → Packs d at form (P.Refused why) d
-  refuses why e = rw e (refl, refl)
-
   -- the test for room, by the output's length k
   module _ (v : List ℕ) (k : ℕ) (t : Bool) (e : form ≡ returned v) (l : k ≡ length v) (q : t ≡ reaches d at k) where
-    pub no_room : not t ≡ true → Packs d at form (P.Refused NoRoom) d
-    no_room n = let r = failed q n in rw (e, ← l, r) (refl, refl)
-
-    pub packs : (f : List ℕ) → not t ≡ false → f ≡ sets d at v → Packs d at form (P.To (at + k)) f
+    pub packs : (f : List ℕ) → not t ≡ false → f ≡ sets d at v → Packs d at form (Ok (at + k)) f
     packs f n p = let r = passed q n in rw (e, ← l, r) (ap (λ (n : ℕ). returned (at + n)) l, p)
 
 -- for callers: where there is room, the bytes stand there, and the answer is the offset past them
-pub packed-there : (d : List ℕ) (at : ℕ) (form : Answer (List ℕ)) (r : Packed) (e v : List ℕ) → Packs d at form r e → form ≡ returned v
-    → at + length v ≤ length d → (r ≡ P.To (at + length v)) × (e ≡ sets d at v)
+pub packed-there : (d : List ℕ) (at : ℕ) (form : Answer (List ℕ)) (r : Result ℕ Refusal) (e v : List ℕ) → Packs d at form r e → form ≡ returned v
+    → at + length v ≤ length d → (r ≡ Ok (at + length v)) × (e ≡ sets d at v)
 packed-there d at form r e v p f room =
     let y : reaches d at (length v) ≡ true = reaches-yes d at (length v) room in
     let t : told r ≡ returned (at + length v) = rw (f, y) at p.0 in
     (to r t, rw (f, y) at p.1)
   where
-    to : {n : ℕ} (r : Packed) → told r ≡ returned n → r ≡ P.To n
-    to (P.To end) t = cc
-    to (P.Refused why) t = let z : ◌≡◌ {A = ℕ} 0 1 = cc in absurd (never z)
+    to : {n : ℕ} (r : Result ℕ Refusal) → told r ≡ returned n → r ≡ Ok n
+    to (Ok end) t = cc
+    to (Err why) t = let z : ◌≡◌ {A = ℕ} 0 1 = cc in absurd (never z)
       where
         never : ◌≡◌ {A = ℕ} 0 1 → ⊥
         never z = omega arith

@@ -7,12 +7,9 @@ use Rattle.slices.specs.Parts.{reaches}
 use Rattle.numbers.specs.BigEndian.{bytes_of, holds}
 use Rattle.numbers.specs.TwosComplement.{bits_of, fits_in}
 use Rattle.utf8.specs.Utf8.{utf8}
-use Rattle.refusal.specs.Numbers.{number_of}
 use Rattle.refusal.specs.Answer.{Answer, returned, refused}
 use Rattle.markers.specs.Value.{Value, null, boolean, integer, float, bytes, string, list, dictionary, structure, Items, no_items, item, count, Entries, no-entries, entry, count_entries}
 use Rattle.bolt.specs.Limits.{most_bytes}
-use Rattle.packing.specs.declared.Packed.{Packed}
-use Rattle.packing.specs.declared.Packed.TheVariants as P
 
 -- ---- numbers behind their markers
 
@@ -139,8 +136,3 @@ leaves at v d = sets d at v
 abbrev pub telling : ℕ → Answer (List ℕ) → Answer ℕ
 telling at (returned v) = returned (at + length v)
 telling at (refused number place) = refused number place
-
--- the code's answer in the paper's terms
-abbrev pub told : Packed → Answer ℕ
-told (P.To end) = returned end
-told (P.Refused why) = refused (number_of why) 0

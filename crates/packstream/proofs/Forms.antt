@@ -9,13 +9,14 @@ use borrow.Author.Tests.{lt-ltb, leb-true, eqb-true, ne_eqb}
 use lib.Dec.{ltb, leb, eqb}
 use lib.IntN.{ℤ}
 use lib.ListN.{length, get_or, length-append}
+use Rattle.std.specs.Prelude.{Result, Ok}
+use Rattle.numbers.specs.declared.ReadError.{ReadError}
 use Rattle.slices.specs.Parts.{part}
 use Rattle.slices.proofs.Parts.{bytes-part, length_part, part-cons}
 use Rattle.slices.proofs.Below.{below}
 use Rattle.numbers.specs.BigEndian.{big_endian, bytes_of, holds, Bytes}
 use Rattle.numbers.specs.TwosComplement.{twos, bits_of, fits_in}
 use Rattle.numbers.specs.Access.{is_width}
-use Rattle.numbers.specs.declared.Unsigned.TheVariants as U
 use Rattle.numbers.proofs.BigEndian.{length-bytes_of, big_lt, big-one}
 use Rattle.numbers.proofs.TwosComplement.{twos-fits}
 use Rattle.numbers.proofs.Access.{width-least, unsigned-found, lies-lt}
@@ -33,7 +34,7 @@ use Rattle.markers.specs.declared.marker.Kind.{Kind}
 use Rattle.markers.specs.declared.marker.Kind.TheVariants as K
 use Rattle.markers.specs.declared.marker.Marker.{Marker}
 use Rattle.markers.proofs.Extents.{LeafInside}
-use Rattle.packing.proofs.Packing.{narrowest-least, length-wide, length-tiny, length-integer, length-boolean, length-header}
+use Rattle.packing.proofs.Packing.{narrowest-least, length-wide, length-tiny, length-integer, length-boolean, length_header}
 use Rattle.packstream.proofs.Headers.{Header}
 
 -- ---- what every marker takes
@@ -81,7 +82,7 @@ header-form s {at} {k = k} bs h =
     (subst (λ (m : Marker). kind_form m.kind b m ≡ true) h.is (marker-form b (bs at)))
 
 -- ---- sizes
-module _ (s : List ℕ) (bs : Bytes s) (at n : ℕ) (m : Marker) (e : size_at s at m ≡ U.Number n) where
+module _ (s : List ℕ) (bs : Bytes s) (at n : ℕ) (m : Marker) (e : size_at s at m ≡ Ok n) where
   -- behind the marker it has no less than its narrowest width
   behind-least : is_width m.width ≡ true → size_width n ≤ m.width
   behind-least w =
@@ -105,7 +106,7 @@ module _ (s : List ℕ) (bs : Bytes s) (at n : ℕ) (m : Marker) (e : size_at s 
 
       by : (b : Bool) → eqb m.width 0 ≡ b → header_length n ≤ m.skip + m.width
       by true g =
-          let same : U.Number m.size ≡ U.Number n = rw g at e in
+          let same : ◌≡◌ {A = Result ℕ ReadError} (Ok m.size) (Ok n) = rw g at e in
           let k : m.size ≡ n = cc in
           omega (arith, subst (λ (i : ℕ). header_length i ≤ m.skip) k (leb-true (header_length m.size) m.skip (rw g at f)))
       by false g =
@@ -158,7 +159,7 @@ module _ (s : List ℕ) (bs : Bytes s) (at : ℕ) where
       let wider = eqb m.skip 1 && (is_width m.size && eqb (get_or s at 0) (0xC8 + doublings m.size)) in
       let f = (and-eq-true_iff (eqb m.width 0) (tiny || wider)).0 (header-form s bs h) in
       let z : m.width ≡ 0 = eqb-true m.width 0 f.0 in
-      let o : U.Number m.size ≡ U.Number n = rw f.0 at h.size in
+      let o : ◌≡◌ {A = Result ℕ ReadError} (Ok m.size) (Ok n) = rw f.0 at h.size in
       let k : m.size ≡ n = cc in
       ⊎_elim (λ t. in_itself k z ((and-eq-true_iff (eqb m.skip 0) _).0 t)) (λ t. in_bytes k z ((and-eq-true_iff (eqb m.skip 1) _).0 t)) (or-true tiny wider f.1)
     where
@@ -210,7 +211,7 @@ module _ (s : List ℕ) (bs : Bytes s) (at n p : ℕ) where
   string-least h room =
       let l : length (part s p n) ≡ n = length_part s p n room in
       let e : length (pack_string (part s p n)) ≡ header_length n + n =
-      length-append (string_header (length (part s p n))) (part s p n) ∙ rw (l, length-header 0x80 0xD0 n) refl in
+      length-append (string_header (length (part s p n))) (part s p n) ∙ rw (l, length_header 0x80 0xD0 n) refl in
       omega (arith, sized-least h (header-form s bs h))
 
   bytes-least : Header s at (K.Leaf L.Bytes) n p → p + n ≤ length s → at + length (pack_bytes (part s p n)) ≤ p + n

@@ -7,15 +7,15 @@ use native.Mathlib.Omega.{arith}
 use lib.Dec.{eqb, ltb}
 use lib.ListN.{length, get_or}
 use borrow.Author.Tests.{lt-ltb, ne_eqb, ltb-true}
+use Rattle.std.specs.Prelude.{Result, Ok, Err}
 use Rattle.slices.specs.Parts.{part, reaches}
 use Rattle.slices.proofs.Parts.{reaches-yes}
 use Rattle.numbers.specs.BigEndian.{big_endian, bytes_of}
 use Rattle.numbers.specs.Access.{is_width}
-use Rattle.numbers.specs.declared.Unsigned.TheVariants as U
 use Rattle.numbers.proofs.BigEndian.{length-bytes_of, read_back}
 use Rattle.numbers.proofs.Access.{unsigned-number, width-least}
 use Rattle.markers.specs.Marker.{sized, marker_of, is_string}
-use Rattle.markers.specs.Extents.{size_at, on_size, leaf_extent, container_extent, kind_extent, extent_at, key_kind_extent, key_extent_at}
+use Rattle.markers.specs.Extents.{span, size_at, on_size, leaf_span, as_leaf, leaf_extent, container_extent, kind_extent, extent_at, key_kind_extent, key_extent_at}
 use Rattle.values.specs.Decode.{leaf_at, container_at, value_at}
 use Rattle.markers.specs.declared.kind.Leaf.{Leaf}
 use Rattle.markers.specs.declared.kind.Leaf.TheVariants as L
@@ -25,8 +25,10 @@ use Rattle.markers.specs.declared.marker.Kind.TheVariants as K
 use Rattle.markers.specs.declared.marker.Marker.{Marker}
 use Rattle.markers.specs.declared.extent.Extent.{Extent}
 use Rattle.markers.specs.declared.extent.Extent.TheVariants as E
-use Rattle.numbers.specs.declared.Unsigned.{Unsigned}
-use Rattle.refusal.specs.declared.Refusal.{Refusal}
+use Rattle.markers.specs.declared.extent.Span.{Span}
+use Rattle.numbers.specs.declared.ReadError.{ReadError}
+use Rattle.refusal.specs.Answer.{placed}
+use Rattle.refusal.specs.declared.Fault.{Fault}
 use Rattle.refusal.specs.declared.Refusal.TheVariants.{ValueTruncated}
 use Rattle.packstream.proofs.Here.{Here, here-room, here-part, here-inside, here-first, here-behind}
 
@@ -36,7 +38,7 @@ pub record Header (s : List ℕ) (at : ℕ) (k : Kind) (n p : ℕ) : Type 0 wher
   pub inside : at < length s
   pub is : marker_of (get_or s at 0) ≡ marker
   pub kind : marker.kind ≡ k
-  pub size : size_at s at marker ≡ U.Number n
+  pub size : size_at s at marker ≡ Ok n
   pub start : at + marker.skip + marker.width ≡ p
 
 module _ {s : List ℕ} {at b : ℕ} {after : List ℕ} where
@@ -66,7 +68,7 @@ module _ {s : List ℕ} {at b : ℕ} {after : List ℕ} where
         kind = refl;
         size =
             rw (ne_eqb width 0 (some width (width-least width w)))
-            (sym (unsigned-number s (at + 1) width (record { width = w; inside = r })) ∙ ap U.Number (ap big_endian p ∙ read_back width n l));
+            (sym (unsigned-number s (at + 1) width (record { width = w; inside = r })) ∙ ap Ok (ap big_endian p ∙ read_back width n l));
         start = refl;
       }
     where
@@ -79,8 +81,8 @@ module _ {s : List ℕ} {at n p : ℕ} where
   unfolding extent_at
   by_kind depth h = rw (lt-ltb at (length s) h.inside, h.is, h.kind)
 
-  leaf-is : (k : Leaf) (h : Header s at (K.Leaf k) n p) → p + n ≤ length s → leaf_extent s at k h.marker ≡ E.Leaf k p n
-  unfolding leaf_extent
+  leaf-is : (k : Leaf) (h : Header s at (K.Leaf k) n p) → p + n ≤ length s → leaf_extent s at k h.marker ≡ Ok (E.Leaf k p n)
+  unfolding leaf_span
   leaf-is k h room = rw (h.size, h.start, reaches-yes s p n room)
 
   pub leaf-value : (k : Leaf) (depth : ℕ) → Header s at (K.Leaf k) n p → p + n ≤ length s → value_at s depth at ≡ leaf_at s at k p n
@@ -96,9 +98,9 @@ module _ {s : List ℕ} {at n p : ℕ} where
       some : (k : ℕ) → suc k ≡ 0 → ⊥
       some k e = omega arith
 
-  pub key-extent : Header s at (K.Leaf L.String) n p → p + n ≤ length s → key_extent_at s at ≡ E.Leaf L.String p n
-  unfolding key_extent_at leaf_extent
-  key-extent h room = rw (lt-ltb at (length s) h.inside, h.is, h.kind) (leaf-is L.String h room)
+  pub key-extent : Header s at (K.Leaf L.String) n p → p + n ≤ length s → key_extent_at s at ≡ Ok (span p n)
+  unfolding key_extent_at leaf_span
+  key-extent h room = rw (lt-ltb at (length s) h.inside, h.is, h.kind, h.size, h.start, reaches-yes s p n room) refl
 
 -- ---- every extent has a header
 -- either way of a test
@@ -106,34 +108,33 @@ pub by-test : {A : Type 0} (P : A → Type 0) (b : Bool) (x y : A) → (b ≡ tr
 by-test P true x y g h = g refl
 by-test P false x y g h = h refl
 
-by_size : (P : Extent → Type 0) (at : ℕ) (u : Unsigned) (f : ℕ → Extent) → ((n : ℕ) → u ≡ U.Number n → P (f n)) → P (E.Refused ValueTruncated at)
-    → P (on_size at u f)
-by_size P at (U.Number n) f g h = g n refl
-by_size P at U.OutOfBounds f g h = h
-by_size P at U.InvalidWidth f g h = h
+by_size : {A : Type 0} (P : Result A Fault → Type 0) (at : ℕ) (u : Result ℕ ReadError) (f : ℕ → Result A Fault) → ((n : ℕ) → u ≡ Ok n → P (f n))
+    → P (Err (placed ValueTruncated at)) → P (on_size at u f)
+by_size P at (Ok n) f g h = g n refl
+by_size P at (Err why) f g h = h
 
-abbrev pub Headed : List ℕ → ℕ → Extent → Type 0
-Headed s at (E.Leaf k p n) = Header s at (K.Leaf k) n p
-Headed s at (E.Container k p n) = Header s at (K.Container k) n p
-Headed s at (E.Refused why place) = Unit {0}
+abbrev pub Headed : List ℕ → ℕ → Result Extent Fault → Type 0
+Headed s at (Ok (E.Leaf k p n)) = Header s at (K.Leaf k) n p
+Headed s at (Ok (E.Container k p n)) = Header s at (K.Container k) n p
+Headed s at (Err fault) = Unit {0}
 
 -- a key's is a String's
-abbrev pub KeyHeaded : List ℕ → ℕ → Extent → Type 0
-KeyHeaded s at (E.Leaf k p n) = Header s at (K.Leaf L.String) n p
-KeyHeaded s at (E.Container k p n) = Unit {0}
-KeyHeaded s at (E.Refused why place) = Unit {0}
+abbrev pub KeyHeaded : List ℕ → ℕ → Result Span Fault → Type 0
+KeyHeaded s at (Ok p) = Header s at (K.Leaf L.String) p.size p.start
+KeyHeaded s at (Err fault) = Unit {0}
 
 module _ (s : List ℕ) (at : ℕ) (h : at < length s) (m : Marker) (e : marker_of (get_or s at 0) ≡ m) where
-  header_of : {k : Kind} (n : ℕ) → m.kind ≡ k → size_at s at m ≡ U.Number n → Header s at k n (at + m.skip + m.width)
+  header_of : {k : Kind} (n : ℕ) → m.kind ≡ k → size_at s at m ≡ Ok n → Header s at k n (at + m.skip + m.width)
   header_of n k u = record { marker = m; inside = h; is = e; kind = k; size = u; start = refl }
 
-  leaf-headed : (k : Leaf) (P : Extent → Type 0) → ((n : ℕ) → size_at s at m ≡ U.Number n → P (E.Leaf k (at + m.skip + m.width) n))
-      → ((why : Refusal) (place : ℕ) → P (E.Refused why place)) → P (leaf_extent s at k m)
-  unfolding leaf_extent
-  leaf-headed k P there refused =
-      by_size P at (size_at s at m) _
-      (λ n u. by-test P (reaches s (at + m.skip + m.width) n) _ _ (λ r. there n u) (λ r. refused ValueTruncated at))
-      (refused ValueTruncated at)
+  span-headed : (P : Result Span Fault → Type 0) → ((n : ℕ) → size_at s at m ≡ Ok n → P (Ok (span (at + m.skip + m.width) n)))
+      → P (Err (placed ValueTruncated at)) → P (leaf_span s at m)
+  unfolding leaf_span
+  span-headed P there short =
+      by_size P at (size_at s at m) _ (λ n u. by-test P (reaches s (at + m.skip + m.width) n) _ _ (λ r. there n u) (λ r. short)) short
+
+  leaf-headed : (k : Leaf) → m.kind ≡ K.Leaf k → Headed s at (leaf_extent s at k m)
+  leaf-headed k f = span-headed (λ r. Headed s at (as_leaf k r)) (λ n u. header_of n f u) tt
 
   container-headed : (k : Container) → m.kind ≡ K.Container k → Headed s at (container_extent s at k m)
   unfolding container_extent
@@ -148,7 +149,7 @@ module _ (s : List ℕ) (at : ℕ) where
       by : (k : Kind) → (marker_of (get_or s at 0)).kind ≡ k → at < length s → Headed s at (kind_extent s depth at (marker_of (get_or s at 0)) k)
       by K.Reserved f h = tt
       by (K.Leaf k) f h =
-          leaf-headed s at h (marker_of (get_or s at 0)) refl k (Headed s at) (λ n u. header_of s at h (marker_of (get_or s at 0)) refl n f u) (λ why place. tt)
+          leaf-headed s at h (marker_of (get_or s at 0)) refl k f
       by (K.Container k) f h =
           by-test (Headed s at) (eqb depth 0) _ _ (λ d. tt) (λ d. container-headed s at h (marker_of (get_or s at 0)) refl k f)
 
@@ -169,6 +170,7 @@ module _ (s : List ℕ) (at : ℕ) where
       by K.Reserved f h = tt
       by (K.Leaf k) f h =
           by-test (KeyHeaded s at) (is_string k) _ _
-          (λ t. leaf-headed s at h (marker_of (get_or s at 0)) refl k (KeyHeaded s at) (λ n u. header_of s at h (marker_of (get_or s at 0)) refl n (f ∙ ap K.Leaf (is-string k t)) u) (λ why place. tt))
+          (λ t. span-headed s at h (marker_of (get_or s at 0)) refl (KeyHeaded s at)
+          (λ n u. header_of s at h (marker_of (get_or s at 0)) refl n (f ∙ ap K.Leaf (is-string k t)) u) tt)
           (λ t. tt)
       by (K.Container k) f h = tt

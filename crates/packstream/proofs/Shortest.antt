@@ -21,14 +21,17 @@ use Rattle.values.specs.Decode.{Parse, parsed, failed, leaf_value, leaf_at, is_t
 use Rattle.packing.specs.Packing.{wide, header_length, pack_string, list_header, dictionary_header, pack, pack_items, pack_entries}
 use Rattle.packstream.specs.Shortest.{Shortest, IntegerForm, itself, behind, IntegerForms, Claim}
 use Rattle.markers.specs.declared.kind.Leaf.{Leaf}
-use Rattle.markers.specs.declared.kind.Leaf.TheVariants as L
 use Rattle.markers.specs.declared.kind.Container.{Container}
 use Rattle.markers.specs.declared.kind.Container.TheVariants as C
 use Rattle.markers.specs.declared.marker.Kind.TheVariants as K
+use Rattle.std.specs.Prelude.{Result, Ok, Err}
+use Rattle.refusal.specs.declared.Fault.{Fault}
+use Rattle.markers.specs.declared.extent.Span.{Span}
+use Rattle.markers.specs.declared.kind.Leaf.TheVariants as L
 use Rattle.markers.specs.declared.extent.Extent.{Extent}
 use Rattle.markers.specs.declared.extent.Extent.TheVariants as E
-use Rattle.markers.proofs.Extents.{Inside, LeafInside, extent-inside, key-inside}
-use Rattle.packing.proofs.Packing.{length-wide, length-header}
+use Rattle.markers.proofs.Extents.{Inside, SpanInside, LeafInside, extent-inside, key-inside}
+use Rattle.packing.proofs.Packing.{length-wide, length_header}
 use Rattle.packstream.proofs.Here.{here-alone}
 use Rattle.packstream.proofs.Headers.{Header, by-test, Headed, KeyHeaded, headed, key-headed}
 use Rattle.packstream.proofs.Ends.{Ends, ends-then, ends-mapped, ends-any, decoded}
@@ -65,13 +68,13 @@ module _ (s : List ℕ) (bs : Bytes s) where
   unfolding key_at
   key-least seen at = by (key_extent_at s at) (key-headed s at) (key-inside s at)
     where
-      by : (x : Extent) → KeyHeaded s at x → Inside s at x → Ends (key_of s seen at x) (LeastKey at)
-      by (E.Leaf k p n) h i =
-          by-test (λ y. Ends y (LeastKey at)) (utf8 (part s p n)) _ _
-          (λ t. by-test (λ y. Ends y (LeastKey at)) (repeats (part s p n) seen) _ _ (λ r. tt) (λ r. string-least s bs at n p h i.inside))
+      by : (x : Result Span Fault) → KeyHeaded s at x → SpanInside s at L.String x → Ends (key_of s seen at x) (LeastKey at)
+      by (Ok k) h i =
+          let key = part s k.start k.size in
+          by-test (λ y. Ends y (LeastKey at)) (utf8 key) _ _
+          (λ t. by-test (λ y. Ends y (LeastKey at)) (repeats key seen) _ _ (λ r. tt) (λ r. string-least s bs at k.size k.start h i.inside))
           (λ t. tt)
-      by (E.Container k p n) h i = tt
-      by (E.Refused why place) h i = tt
+      by (Err fault) h i = tt
 
   module _ (f : ℕ → Parse Value) (least : (at : ℕ) → Ends (f at) (Least at)) where
     items-least : (n at : ℕ) → Ends (items f n at) (LeastItems n at)
@@ -93,10 +96,10 @@ module _ (s : List ℕ) (bs : Bytes s) where
     unfolding pack
     container-least C.List at p n h =
         ends-mapped (Least at) list (items f n p) (items-least n p) (λ vs end (c, k).
-        omega (arith, list-least s bs at n p h, length-append (list_header (count vs)) (pack_items vs), length-header 0x90 0xD4 (count vs) ∙ ap header_length c))
+        omega (arith, list-least s bs at n p h, length-append (list_header (count vs)) (pack_items vs), length_header 0x90 0xD4 (count vs) ∙ ap header_length c))
     container-least C.Dictionary at p n h =
         ends-mapped (Least at) dictionary (entries s f [] n p) (entries-least [] n p) (λ es end (c, k).
-        omega (arith, dictionary-least s bs at n p h, length-append (dictionary_header (count_entries es)) (pack_entries es), length-header 0xA0 0xD8 (count_entries es) ∙ ap header_length c))
+        omega (arith, dictionary-least s bs at n p h, length-append (dictionary_header (count_entries es)) (pack_entries es), length_header 0xA0 0xD8 (count_entries es) ∙ ap header_length c))
     container-least C.Structure at p n h =
         by-test (λ y. Ends y (Least at)) (ltb p (length s)) _ _
         (λ t. ends-mapped (Least at) (structure (get_or s p 0)) (items f n (p + 1)) (items-least n (p + 1)) (λ vs end (c, k).
@@ -107,11 +110,11 @@ module _ (s : List ℕ) (bs : Bytes s) where
     unfolding leaf_at
     value-of-least depth at = by (extent_at s depth at) (headed s at depth) (extent-inside s at depth)
       where
-        by : (x : Extent) → Headed s at x → Inside s at x → Ends (value_of s f at x) (Least at)
-        by (E.Leaf k p n) h i =
+        by : (x : Result Extent Fault) → Headed s at x → Inside s at x → Ends (value_of s f at x) (Least at)
+        by (Ok (E.Leaf k p n)) h i =
             by-test (λ y. Ends y (Least at)) (is_text k (part s p n)) _ _ (λ t. leaf-least s bs at n p k h i) (λ t. tt)
-        by (E.Container k p n) h i = container-least k at p n h
-        by (E.Refused why place) h i = tt
+        by (Ok (E.Container k p n)) h i = container-least k at p n h
+        by (Err fault) h i = tt
 
   value-least : (depth at : ℕ) → Ends (value_at s depth at) (Least at)
   unfolding value_at
@@ -132,16 +135,16 @@ module _ (s : List ℕ) (bs : Bytes s) where
   unfolding value_at leaf_at
   value-formed depth at = by-depth depth
     where
-      by : (f : ℕ → Parse Value) (x : Extent) → Headed s at x → Inside s at x → Ends (value_of s f at x) (FormedAt s at)
-      by f (E.Leaf k p n) h i =
+      by : (f : ℕ → Parse Value) (x : Result Extent Fault) → Headed s at x → Inside s at x → Ends (value_of s f at x) (FormedAt s at)
+      by f (Ok (E.Leaf k p n)) h i =
           by-test (λ y. Ends y (FormedAt s at)) (is_text k (part s p n)) _ _ (λ t. leaf-formed at k p n h i) (λ t. tt)
-      by f (E.Container C.List p n) h i = ends-mapped (FormedAt s at) list (items f n p) (ends-any (items f n p)) (λ vs end t. tt)
-      by f (E.Container C.Dictionary p n) h i =
+      by f (Ok (E.Container C.List p n)) h i = ends-mapped (FormedAt s at) list (items f n p) (ends-any (items f n p)) (λ vs end t. tt)
+      by f (Ok (E.Container C.Dictionary p n)) h i =
           ends-mapped (FormedAt s at) dictionary (entries s f [] n p) (ends-any (entries s f [] n p)) (λ es end t. tt)
-      by f (E.Container C.Structure p n) h i =
+      by f (Ok (E.Container C.Structure p n)) h i =
           by-test (λ y. Ends y (FormedAt s at)) (ltb p (length s)) _ _
           (λ t. ends-mapped (FormedAt s at) (structure (get_or s p 0)) (items f n (p + 1)) (ends-any (items f n (p + 1))) (λ vs end t. tt)) (λ t. tt)
-      by f (E.Refused why place) h i = tt
+      by f (Err fault) h i = tt
 
       by-depth : (depth : ℕ) → Ends (value_at s depth at) (FormedAt s at)
       by-depth zero = by (λ p. failed TooDeep p) (extent_at s zero at) (headed s at zero) (extent-inside s at zero)

@@ -16,7 +16,9 @@ use Rattle.slices.proofs.Below.{below}
 use Rattle.numbers.specs.BigEndian.{big_endian, holds, Bytes}
 use Rattle.numbers.specs.TwosComplement.{twos, fits_in}
 use Rattle.numbers.specs.Access.{unsigned_at}
-use Rattle.numbers.specs.declared.Unsigned.TheVariants as U
+use Rattle.std.specs.Prelude.{Result, Ok, Err}
+use Rattle.refusal.specs.declared.Fault.{Fault}
+use Rattle.markers.specs.declared.extent.Span.{Span}
 use Rattle.numbers.proofs.BigEndian.{big_lt, pow256-mono}
 use Rattle.numbers.proofs.TwosComplement.{fits-yes, fits_lt, twos-fits}
 use Rattle.numbers.proofs.Access.{unsigned-found, lies-lt, width-most}
@@ -35,7 +37,7 @@ use Rattle.markers.specs.declared.marker.Kind.TheVariants as K
 use Rattle.markers.specs.declared.marker.Marker.{Marker}
 use Rattle.markers.specs.declared.extent.Extent.{Extent}
 use Rattle.markers.specs.declared.extent.Extent.TheVariants as E
-use Rattle.markers.proofs.Extents.{Inside, LeafInside, extent-inside, key-inside, Shut, no_room}
+use Rattle.markers.proofs.Extents.{Inside, SpanInside, LeafInside, extent-inside, key-inside, Shut, no_room}
 use Rattle.bolt.specs.Limits.{most_bytes}
 use Rattle.values.specs.Decode.{Parse, parsed, failed, is_text, leaf_value, leaf_at, items, repeats, KeyText, key_of, key_at, entries, container_at, value_of, value_at, decode}
 use Rattle.packing.specs.Packing.{pack}
@@ -77,7 +79,7 @@ module _ (s : List ℕ) (bs : Bytes s) (at n p : ℕ) where
           (subst (λ (j : Kind). (leb m.width (widest j) && leb m.size 15) ≡ true) h.kind
           (subst (λ (w : Marker). gives w ≡ true) h.is (marker-gives (get_or s at 0) (bs at))))
 
-      by : (b : Bool) → eqb m.width 0 ≡ b → cond b (U.Number m.size) (unsigned_at s (at + m.skip) m.width) ≡ U.Number n
+      by : (b : Bool) → eqb m.width 0 ≡ b → cond b (Ok m.size) (unsigned_at s (at + m.skip) m.width) ≡ Ok n
           → (n < 16) ⊎ (n < 256 ^ widest k)
       by true e f = let g : m.size ≡ n = cc f in inl (omega (arith, leb-true m.size 15 given.1))
       by false e f =
@@ -149,14 +151,14 @@ module _ (s : List ℕ) (bs : Bytes s) where
   unfolding key_at
   key-packable seen at = by (key_extent_at s at) (key-headed s at) (key-inside s at)
     where
-      by : (x : Extent) → KeyHeaded s at x → Inside s at x → Ends (key_of s seen at x) (NewKey seen)
-      by (E.Leaf k p n) h i =
-          by-test (λ y. Ends y (NewKey seen)) (utf8 (part s p n)) _ _
-          (λ t. by-test (λ y. Ends y (NewKey seen)) (repeats (part s p n) seen) _ _ (λ r. tt)
-          (λ r. both (valid_text (part s p n)) (not (repeats (part s p n) seen)) (text-packable s bs at n p h i.inside t) (ap not r)))
+      by : (x : Result Span Fault) → KeyHeaded s at x → SpanInside s at L.String x → Ends (key_of s seen at x) (NewKey seen)
+      by (Ok k) h i =
+          let key = part s k.start k.size in
+          by-test (λ y. Ends y (NewKey seen)) (utf8 key) _ _
+          (λ t. by-test (λ y. Ends y (NewKey seen)) (repeats key seen) _ _ (λ r. tt)
+          (λ r. both (valid_text key) (not (repeats key seen)) (text-packable s bs at k.size k.start h i.inside t) (ap not r)))
           (λ t. tt)
-      by (E.Container k p n) h i = tt
-      by (E.Refused why place) h i = tt
+      by (Err fault) h i = tt
 
   -- f reads what a container holds
   module _ (depth : ℕ) (f : ℕ → Parse Value) (sound : (at : ℕ) → Ends (f at) (Packable depth)) where
@@ -204,19 +206,19 @@ module _ (s : List ℕ) (bs : Bytes s) where
   shut-packable : (at : ℕ) → Ends (value_of s (λ p. failed TooDeep p) at (extent_at s zero at)) (Packable zero)
   shut-packable at = by (extent_at s zero at) (headed s at zero) (extent-inside s at zero) (no_room s at)
     where
-      by : (x : Extent) → Headed s at x → Inside s at x → Shut x → Ends (value_of s (λ p. failed TooDeep p) at x) (Packable zero)
-      by (E.Leaf k p n) h i c = leaf-ends zero at k p n h i
-      by (E.Container k p n) h i c = absurd c
-      by (E.Refused why place) h i c = tt
+      by : (x : Result Extent Fault) → Headed s at x → Inside s at x → Shut x → Ends (value_of s (λ p. failed TooDeep p) at x) (Packable zero)
+      by (Ok (E.Leaf k p n)) h i c = leaf-ends zero at k p n h i
+      by (Ok (E.Container k p n)) h i c = absurd c
+      by (Err fault) h i c = tt
 
   open-packable : (depth : ℕ) (f : ℕ → Parse Value) → ((at : ℕ) → Ends (f at) (Packable depth)) → (at : ℕ)
       → Ends (value_of s f at (extent_at s (suc depth) at)) (Packable (suc depth))
   open-packable depth f sound at = by (extent_at s (suc depth) at) (headed s at (suc depth)) (extent-inside s at (suc depth))
     where
-      by : (x : Extent) → Headed s at x → Inside s at x → Ends (value_of s f at x) (Packable (suc depth))
-      by (E.Leaf k p n) h i = leaf-ends (suc depth) at k p n h i
-      by (E.Container k p n) h i = container-packable depth f sound k at p n h
-      by (E.Refused why place) h i = tt
+      by : (x : Result Extent Fault) → Headed s at x → Inside s at x → Ends (value_of s f at x) (Packable (suc depth))
+      by (Ok (E.Leaf k p n)) h i = leaf-ends (suc depth) at k p n h i
+      by (Ok (E.Container k p n)) h i = container-packable depth f sound k at p n h
+      by (Err fault) h i = tt
 
   value-packable : (depth at : ℕ) → Ends (value_at s depth at) (Packable depth)
   unfolding value_at

@@ -10,7 +10,7 @@ use Rattle.markers.specs.Value.{Value, boolean, integer, float, string, dictiona
 use Rattle.markers.specs.Marker.{marker_of, lookup}
 use Rattle.values.specs.Decode.{decode, message_of, value_in, value_at, items, entries, key_at, leaf_at, leaf_value, repeats}
 use Rattle.slices.specs.Equality.{same}
-use Rattle.markers.specs.Extents.{key_extent_at, extent_at, leaf_extent, container_extent}
+use Rattle.markers.specs.Extents.{key_extent_at, extent_at, leaf_span, container_extent}
 
 record Case : Type 0 where
   message : List ℕ
@@ -43,5 +43,5 @@ cases =
     ∷ []
 
 pub hold : map (λ c. decode c.message) cases ≡ map (λ c. c.answer) cases
-unfolding message_of value_in value_at items entries key_at key_extent_at extent_at leaf_extent container_extent leaf_at leaf_value same repeats marker_of lookup unsigned_at big_endian twos utf8 sequences_from sequence completes count_leading_zeros
+unfolding message_of value_in value_at items entries key_at key_extent_at extent_at leaf_span container_extent leaf_at leaf_value same repeats marker_of lookup unsigned_at big_endian twos utf8 sequences_from sequence completes count_leading_zeros
 hold = refl

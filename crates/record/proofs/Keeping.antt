@@ -5,26 +5,25 @@ use mathlib.Core.List.{List, [], ◌∷◌, map}
 use Prim.Native.Nat.{ℕ, zero, suc, ◌+◌, ◌-◌, ◌<◌, ◌≤◌}
 use native.Mathlib.Omega.{arith}
 use lib.Dec.{eqb, ltb, leb}
-use lib.IntN.{ℤ}
-use lib.ListN.{length, length-append, length-map, set, take}
+use lib.ListN.{length, length-append, length-map, take}
 use lib.Seq.{sets}
 use borrow.Author.Tests.{leb-true, ltb-true}
 use Rattle.refusal.specs.Answer.{returned}
-use Rattle.bolt.specs.Requests.{tag}
 use Rattle.states.specs.declared.state.State.{State}
 use Rattle.states.specs.declared.state.State.TheVariants.{Defunct}
 use Rattle.states.specs.declared.request.Request.{Request}
 use Rattle.states.specs.declared.answers.Summary.{Summary}
-use Rattle.states.specs.Requests.{kind_of, rank}
+use Rattle.states.specs.Requests.{rank}
 use Rattle.states.specs.Table.{Open, Table, queued, idle, answered, defunct, enqueued, number_after, answer}
-use Rattle.states.proofs.Bools.{and_left, and_right}
+use Rattle.std.proofs.lemmas.Bool.{and_parts}
 use Rattle.states.proofs.Lists.{sets-own}
 use Rattle.record.specs.declared.record.Control.{Control}
 use Rattle.record.specs.declared.record.Connection.{Connection}
-use Rattle.record.specs.Names.{is_state, count_of, qid_of}
+use Rattle.record.specs.declared.record.Queue.{Queue}
+use Rattle.record.specs.Names.{is_state}
 use Rattle.record.specs.Ring.{place, behind, lined, place_at, request_in}
 use Rattle.record.specs.Record.{joined, state_in, is_in_flight, open_in, waiting_in, kept, bounded}
-use Rattle.record.specs.Calls.{put, storing, nowhere, carried}
+use Rattle.record.specs.Calls.{put, holding, storing, nowhere, carried}
 use Rattle.record.proofs.Numbers.{rank-of-state}
 use Rattle.record.proofs.Opened.{open-length}
 use Rattle.record.proofs.Places.{length-lined}
@@ -45,15 +44,15 @@ bounds k e =
     let first = ltb k.first 32 in
     let few = leb k.waiting 32 in
     let fewer = leb k.opened 8 in
-    let e₁ = and_right state (flight && (first && (few && fewer))) e in
-    let e₂ = and_right flight (first && (few && fewer)) e₁ in
-    let e₃ = and_right first (few && fewer) e₂ in
+    let e₁ = (and_parts state (flight && (first && (few && fewer))) e).1 in
+    let e₂ = (and_parts flight (first && (few && fewer)) e₁).1 in
+    let e₃ = (and_parts first (few && fewer) e₂).1 in
     record {
-      state = leb-true k.state 7 (and_left state (flight && (first && (few && fewer))) e);
-      flight = leb-true k.in_flight 1 (and_left flight (first && (few && fewer)) e₁);
-      first = ltb-true k.first 32 (and_left first (few && fewer) e₂);
-      few = leb-true k.waiting 32 (and_left few fewer e₃);
-      fewer = leb-true k.opened 8 (and_right few fewer e₃);
+      state = leb-true k.state 7 ((and_parts state (flight && (first && (few && fewer))) e).0);
+      flight = leb-true k.in_flight 1 ((and_parts flight (first && (few && fewer)) e₁).0);
+      first = ltb-true k.first 32 ((and_parts first (few && fewer) e₂).0);
+      few = leb-true k.waiting 32 ((and_parts few fewer e₃).0);
+      fewer = leb-true k.opened 8 ((and_parts few fewer e₃).1);
     }
 
 -- ---- numbers that stand for what they are read as
@@ -75,25 +74,25 @@ first_of g at (suc w) h = ap (λ (n : ℕ). g at ∷ lined g (behind at) n) (les
     less : (w : ℕ) → w ≡ suc w - 1
     less w = omega arith
 
-module _ (k : Control) (streams kinds : List ℕ) (counts qids : List ℤ) where
+module _ (k : Control) (streams : List ℕ) (queue : Queue) where
   -- the requests that wait behind the first
   abbrev pub behind_first : List Request
-  behind_first = map request_in (lined (place_at kinds counts qids) (behind k.first) (k.waiting - 1))
+  behind_first = map request_in (lined (place_at queue) (behind k.first) (k.waiting - 1))
 
   abbrev pub first_in : Request
-  first_in = request_in (place_at kinds counts qids k.first)
+  first_in = request_in (place_at queue k.first)
 
-  pub size : length (waiting_in k kinds counts qids) ≡ k.waiting
-  size = length-map (lined (place_at kinds counts qids) k.first k.waiting) request_in ∙ length-lined (place_at kinds counts qids) k.first k.waiting
+  pub size : length (waiting_in k queue) ≡ k.waiting
+  size = length-map (lined (place_at queue) k.first k.waiting) request_in ∙ length-lined (place_at queue) k.first k.waiting
 
   pub behind-size : length behind_first ≡ k.waiting - 1
-  behind-size = length-map (lined (place_at kinds counts qids) (behind k.first) (k.waiting - 1)) request_in ∙ length-lined (place_at kinds counts qids) (behind k.first) (k.waiting - 1)
+  behind-size = length-map (lined (place_at queue) (behind k.first) (k.waiting - 1)) request_in ∙ length-lined (place_at queue) (behind k.first) (k.waiting - 1)
 
-  pub first-waits : 0 < k.waiting → waiting_in k kinds counts qids ≡ first_in ∷ behind_first
-  first-waits h = ap (map request_in) (first_of (place_at kinds counts qids) k.first k.waiting h)
+  pub first-waits : 0 < k.waiting → waiting_in k queue ≡ first_in ∷ behind_first
+  first-waits h = ap (map request_in) (first_of (place_at queue) k.first k.waiting h)
 
   abbrev c : Connection
-  c = joined k streams kinds counts qids
+  c = joined k streams queue
 
   module _ (b : Bounds k) (long : length streams ≡ 8) where
     state-own : rank (state_in k) ≡ k.state
@@ -125,9 +124,7 @@ module _ (k : Control) (streams kinds : List ℕ) (counts qids : List ℤ) where
         sent = k.sent;
       };
       streams = streams-own i;
-      kinds = kinds;
-      counts = counts;
-      qids = qids;
+      queue = queue;
     }
 
     -- nothing changes
@@ -138,7 +135,7 @@ module _ (k : Control) (streams kinds : List ℕ) (counts qids : List ℤ) where
     pub put-answered : (s : State) (o : Open) (after : List ℕ) (ws : List Request) (summary : Summary) {opened next left : ℕ}
         → opened ≡ length o.numbers → next ≡ o.next → after ≡ sets streams 0 o.numbers → left ≡ length ws
         → record {
-          connection = joined (record { state = rank s; in_flight = 0; first = behind k.first; waiting = left; opened = opened; next = next; accepted = k.accepted; sent = k.sent + 1 }) after kinds counts qids;
+          connection = joined (record { state = rank s; in_flight = 0; first = behind k.first; waiting = left; opened = opened; next = next; accepted = k.accepted; sent = k.sent + 1 }) after queue;
           answer = returned (answered summary (number_after k.sent));
         }
         ≡ carried nowhere c (returned (answer (kept c) s o ws summary))
@@ -155,16 +152,14 @@ module _ (k : Control) (streams kinds : List ℕ) (counts qids : List ℤ) where
           sent = k.sent + 1;
         };
         streams = e i;
-        kinds = kinds;
-        counts = counts;
-        qids = qids;
+        queue = queue;
       };
       answer = returned (answered summary (number_after k.sent));
     }
 
     -- ---- the first is in flight
-    pub put-handed : joined (record { state = k.state; in_flight = 1; first = k.first; waiting = k.waiting; opened = k.opened; next = k.next; accepted = k.accepted; sent = k.sent }) streams kinds counts qids
-        ≡ put c (record { state = state_in k; waiting = waiting_in k kinds counts qids; in_flight = true; streams = open_in k streams; accepted = k.accepted; sent = k.sent })
+    pub put-handed : joined (record { state = k.state; in_flight = 1; first = k.first; waiting = k.waiting; opened = k.opened; next = k.next; accepted = k.accepted; sent = k.sent }) streams queue
+        ≡ put c (record { state = state_in k; waiting = waiting_in k queue; in_flight = true; streams = open_in k streams; accepted = k.accepted; sent = k.sent })
     put-handed = λ i. record {
       control = record {
         state = sym state-own i;
@@ -177,14 +172,12 @@ module _ (k : Control) (streams kinds : List ℕ) (counts qids : List ℤ) where
         sent = k.sent;
       };
       streams = sym streams-own i;
-      kinds = kinds;
-      counts = counts;
-      qids = qids;
+      queue = queue;
     }
 
     -- ---- the connection is closed, with so many accepted
     pub put-defunct : (t : Table) → t.streams.next ≡ k.next → t.sent ≡ k.sent
-        → joined (record { state = rank Defunct; in_flight = 0; first = k.first; waiting = 0; opened = 0; next = k.next; accepted = t.accepted; sent = k.sent }) streams kinds counts qids ≡ put c (defunct t)
+        → joined (record { state = rank Defunct; in_flight = 0; first = k.first; waiting = 0; opened = 0; next = k.next; accepted = t.accepted; sent = k.sent }) streams queue ≡ put c (defunct t)
     put-defunct t p q = λ i. record {
       control = record {
         state = rank Defunct;
@@ -197,16 +190,14 @@ module _ (k : Control) (streams kinds : List ℕ) (counts qids : List ℤ) where
         sent = sym q i;
       };
       streams = streams;
-      kinds = kinds;
-      counts = counts;
-      qids = qids;
+      queue = queue;
     }
 
     -- ---- one more waits: its numbers are stored, and o are open
     pub put-enqueued : (s : State) (o : Open) (r : Request) {opened next : ℕ} → opened ≡ length o.numbers → next ≡ o.next → streams ≡ sets streams 0 o.numbers
         → record {
           connection = joined (record { state = rank s; in_flight = k.in_flight; first = k.first; waiting = k.waiting + 1; opened = opened; next = next; accepted = k.accepted + 1; sent = k.sent }) streams
-              (set kinds (place k.first k.waiting) (tag (kind_of r))) (set counts (place k.first k.waiting) (count_of r)) (set qids (place k.first k.waiting) (qid_of r));
+              (holding r (place k.first k.waiting) queue);
           answer = returned queued;
         }
         ≡ carried (storing r) c (returned (record { table = enqueued (kept c) s o r; said = queued }))
@@ -216,16 +207,14 @@ module _ (k : Control) (streams kinds : List ℕ) (counts qids : List ℤ) where
           state = rank s;
           in_flight = sym flight-own i;
           first = sym first-own i;
-          waiting = sym (length-append (waiting_in k kinds counts qids) (r ∷ []) ∙ ap (λ (n : ℕ). n + 1) size) i;
+          waiting = sym (length-append (waiting_in k queue) (r ∷ []) ∙ ap (λ (n : ℕ). n + 1) size) i;
           opened = p i;
           next = q i;
           accepted = k.accepted + 1;
           sent = k.sent;
         };
         streams = e i;
-        kinds = set kinds (place k.first k.waiting) (tag (kind_of r));
-        counts = set counts (place k.first k.waiting) (count_of r);
-        qids = set qids (place k.first k.waiting) (qid_of r);
+        queue = holding r (place k.first k.waiting) queue;
       };
       answer = returned queued;
     }

@@ -1,8 +1,8 @@
 -- The laws of the ring of 32 places in which requests wait. Assumes nothing.
-use Prim.Native.Nat.{ℕ, zero, suc, ◌-◌, ◌%◌, ◌<◌, ◌≤◌}
-use native.Mathlib.Nat.{not-suc-le-zero}
+use Prim.Native.Nat.{ℕ, zero, suc, ◌+◌, ◌%◌, ◌<◌}
+use native.Mathlib.Numerals.{add-one}
 use native.Mathlib.Omega.{arith}
-use mathlib.Core.Bool.{Bool, true, false, ◌||◌}
+use mathlib.Core.Bool.{Bool, false, ◌||◌}
 use mathlib.Core.Path.{◌≡◌, refl, sym, ap, ◌∙◌}
 use mathlib.Core.List.{List, [], ◌∷◌, ◌++◌, map}
 use lib.IntN.{ℤ, pos}
@@ -10,6 +10,7 @@ use lib.ListN.{length, get_or, set}
 use lib.Seq.{get_or-set_same, get_or-set_other}
 use Rattle.states.specs.Requests.{is, any}
 use Rattle.bolt.specs.Requests.{RESET}
+use Rattle.record.specs.declared.record.Queue.{Queue}
 use Rattle.record.specs.Ring.{Place, behind, place, lined, kind_at, place_at, request_in, is_reset}
 use Rattle.record.proofs.Numbers.{reset-by-kind}
 
@@ -40,10 +41,6 @@ module _ {A : Type 0} where
   length-lined g at zero = refl
   length-lined g at (suc w) = ap suc (length-lined g (behind at) w)
 
-  -- the first goes: the rest is read from the place behind it
-  pub first_goes : (g : ℕ → A) (at w : ℕ) → lined g at (suc w) ≡ g at ∷ lined g (behind at) w
-  first_goes g at w = refl
-
   -- places that are not read do not matter
   pub alike : (g g' : ℕ → A) (w at : ℕ) → at < 32 → ((i : ℕ) → i < w → g (place at i) ≡ g' (place at i)) → lined g at w ≡ lined g' at w
   alike g g' zero at h e = refl
@@ -72,64 +69,40 @@ module _ {A : Type 0} (l : List A) (d x : A) where
   pub stored-else : (q p : ℕ) → p < 32 → (p ≡ q → ⊥) → get_or (set l q x) (p % 32) d ≡ get_or l (p % 32) d
   stored-else q p h e = get_or-set_other l q (p % 32) x d (λ (same : p % 32 ≡ q). e (sym (read_here p h) ∙ same))
 
-  -- what is stored in a place that is not read leaves the line
-  pub unused : (at w j : ℕ) → at < 32 → w ≤ j → j < 32 → lined (λ p. get_or (set l (place at j) x) (p % 32) d) at w ≡ lined (λ p. get_or l (p % 32) d) at w
-  unused at w j h k m =
-      alike (λ p. get_or (set l (place at j) x) (p % 32) d) (λ p. get_or l (p % 32) d) w at h
-      (λ i n. stored-else (place at j) (place at i) (place-below at i) (places-differ at i j (omega (arith, n, k)) m))
+-- the same of the queue, whose arrays hold a request's numbers
+module _ (queue : Queue) (k : ℕ) (n q : ℤ) where
+  abbrev putting : ℕ → Queue
+  putting at = record { kinds = set queue.kinds at k; counts = set queue.counts at n; qids = set queue.qids at q }
 
-  -- what is stored behind the last stands at the line's end
-  pub stored : (at w : ℕ) → length l ≡ 32 → at < 32 → w < 32 → lined (λ p. get_or (set l (place at w) x) (p % 32) d) at (suc w) ≡ lined (λ p. get_or l (p % 32) d) at w ++ (x ∷ [])
-  stored at w n h k =
-      enqueue (λ p. get_or l (p % 32) d) (λ p. get_or (set l (place at w) x) (p % 32) d) at w h k (stored-else (place at w))
-      ∙ ap (λ (y : A). lined (λ p. get_or l (p % 32) d) at w ++ (y ∷ [])) (stored_here (place at w) n (place-below at w))
-
--- the same of the three arrays, which hold a request's numbers
-module _ (kinds : List ℕ) (counts qids : List ℤ) (k : ℕ) (n q : ℤ) where
-  pub put-here : (p : ℕ) → length kinds ≡ 32 → length counts ≡ 32 → length qids ≡ 32 → p < 32
-      → place_at (set kinds p k) (set counts p n) (set qids p q) p ≡ record { kind = k; n = n; qid = q }
+  put-here : (p : ℕ) → length queue.kinds ≡ 32 → length queue.counts ≡ 32 → length queue.qids ≡ 32 → p < 32 → place_at (putting p) p ≡ record { kind = k; n = n; qid = q }
   put-here p a b c h = λ i. record {
-    kind = stored_here kinds 0 k p a h i;
-    n = stored_here counts (pos 0) n p b h i;
-    qid = stored_here qids (pos 0) q p c h i;
+    kind = stored_here queue.kinds 0 k p a h i;
+    n = stored_here queue.counts (pos 0) n p b h i;
+    qid = stored_here queue.qids (pos 0) q p c h i;
   }
 
-  pub put-else : (at p : ℕ) → p < 32 → (p ≡ at → ⊥) → place_at (set kinds at k) (set counts at n) (set qids at q) p ≡ place_at kinds counts qids p
+  put-else : (at p : ℕ) → p < 32 → (p ≡ at → ⊥) → place_at (putting at) p ≡ place_at queue p
   put-else at p h e = λ i. record {
-    kind = stored-else kinds 0 k at p h e i;
-    n = stored-else counts (pos 0) n at p h e i;
-    qid = stored-else qids (pos 0) q at p h e i;
+    kind = stored-else queue.kinds 0 k at p h e i;
+    n = stored-else queue.counts (pos 0) n at p h e i;
+    qid = stored-else queue.qids (pos 0) q at p h e i;
   }
 
-  pub put_last : (at w : ℕ) → length kinds ≡ 32 → length counts ≡ 32 → length qids ≡ 32 → at < 32 → w < 32
-      → lined (place_at (set kinds (place at w) k) (set counts (place at w) n) (set qids (place at w) q)) at (suc w)
-      ≡ lined (place_at kinds counts qids) at w ++ (record { kind = k; n = n; qid = q } ∷ [])
+  pub put_last : (at w : ℕ) → length queue.kinds ≡ 32 → length queue.counts ≡ 32 → length queue.qids ≡ 32 → at < 32 → w < 32
+      → lined (place_at (putting (place at w))) at (suc w) ≡ lined (place_at queue) at w ++ (record { kind = k; n = n; qid = q } ∷ [])
   put_last at w a b c h m =
-      enqueue (place_at kinds counts qids) (place_at (set kinds (place at w) k) (set counts (place at w) n) (set qids (place at w) q)) at w h m (put-else (place at w))
-      ∙ ap (λ (p : Place). lined (place_at kinds counts qids) at w ++ (p ∷ [])) (put-here (place at w) a b c (place-below at w))
+      enqueue (place_at queue) (place_at (putting (place at w))) at w h m (put-else (place at w))
+      ∙ ap (λ (p : Place). lined (place_at queue) at w ++ (p ∷ [])) (put-here (place at w) a b c (place-below at w))
 
--- ---- a scan in the order in which they wait: of what is left, the first decides, or what is behind it
-pub less : (w : ℕ) → w ≡ suc w - 1
-less w = omega arith
-
-module _ {A : Type 0} (f : A → Bool) (g : ℕ → A) (at : ℕ) where
-  pub found : (w : ℕ) → 0 < w → f (g at) ≡ true → any f (lined g at w) ≡ true
-  found zero h e = absurd (not-suc-le-zero h)
-  found (suc w) h e = ap (λ (b : Bool). b || any f (lined g (behind at) w)) e
-
-  pub passed : (w : ℕ) → 0 < w → f (g at) ≡ false → any f (lined g at w) ≡ any f (lined g (behind at) (w - 1))
-  passed zero h e = absurd (not-suc-le-zero h)
-  passed (suc w) h e = ap (λ (b : Bool). b || any f (lined g (behind at) w)) e ∙ ap (λ (m : ℕ). any f (lined g (behind at) m)) (less w)
-
-  pub ended : (w : ℕ) → w ≤ 0 → any f (lined g at w) ≡ false
-  ended zero h = refl
-  ended (suc w) h = absurd (not-suc-le-zero h)
+-- ---- a scan in the order in which they wait: where the first does not pass, what is behind it decides
+pub passed : {A : Type 0} (f : A → Bool) (g : ℕ → A) (at w v : ℕ) → w ≡ v + 1 → f (g at) ≡ false → any f (lined g at w) ≡ any f (lined g (behind at) v)
+passed f g at w v e t = ap (λ (n : ℕ). any f (lined g at n)) (e ∙ add-one v) ∙ ap (λ (b : Bool). b || any f (lined g (behind at) v)) t
 
 -- ---- a RESET among those that wait, by the kinds alone
 pub resets-by-kind : (ps : List Place) → any (is RESET) (map request_in ps) ≡ any (λ (p : Place). is_reset p.kind) ps
 resets-by-kind [] = refl
 resets-by-kind (p ∷ ps) = λ i. reset-by-kind p.kind p.n p.qid i || resets-by-kind ps i
 
-pub resets-in-kinds : (kinds : List ℕ) (counts qids : List ℤ) (at w : ℕ) → any (λ (p : Place). is_reset p.kind) (lined (place_at kinds counts qids) at w) ≡ any is_reset (lined (kind_at kinds) at w)
-resets-in-kinds kinds counts qids at zero = refl
-resets-in-kinds kinds counts qids at (suc w) = ap (λ (b : Bool). is_reset (kind_at kinds at) || b) (resets-in-kinds kinds counts qids (behind at) w)
+pub resets-in-kinds : (queue : Queue) (at w : ℕ) → any (λ (p : Place). is_reset p.kind) (lined (place_at queue) at w) ≡ any is_reset (lined (kind_at queue.kinds) at w)
+resets-in-kinds queue at zero = refl
+resets-in-kinds queue at (suc w) = ap (λ (b : Bool). is_reset (kind_at queue.kinds at) || b) (resets-in-kinds queue (behind at) w)

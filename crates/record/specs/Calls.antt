@@ -11,6 +11,7 @@ use Rattle.states.specs.Table as T
 use Rattle.states.specs.Table.{Table, Said, Done}
 use Rattle.record.specs.declared.record.Control.{Control}
 use Rattle.record.specs.declared.record.Connection.{Connection}
+use Rattle.record.specs.declared.record.Queue.{Queue}
 use Rattle.record.specs.Names.{count_of, qid_of}
 use Rattle.record.specs.Ring.{place}
 use Rattle.record.specs.Record.{joined, kept, keeps_rules}
@@ -29,15 +30,17 @@ control_of k t = record {
   sent = t.sent;
 }
 
--- the open numbers stand at the front of theirs; the queue's arrays stay
+-- the open numbers stand at the front of theirs; the queue stays
 abbrev pub put : Connection → Table → Connection
-put c t = joined (control_of c.control t) (sets c.streams 0 t.streams.numbers) c.kinds c.counts c.qids
+put c t = joined (control_of c.control t) (sets c.streams 0 t.streams.numbers) c.queue
 
--- a request's three numbers, in the place behind the last one that waits
+-- a request's three numbers, in a place of the queue
+abbrev pub holding : Request → ℕ → Queue → Queue
+holding r at queue = record { kinds = set queue.kinds at (tag (kind_of r)); counts = set queue.counts at (count_of r); qids = set queue.qids at (qid_of r) }
+
+-- in the place behind the last one that waits
 abbrev pub stored : Request → Connection → Connection
-stored r c =
-    let at : ℕ = place c.control.first c.control.waiting in
-    joined c.control c.streams (set c.kinds at (tag (kind_of r))) (set c.counts at (count_of r)) (set c.qids at (qid_of r))
+stored r c = joined c.control c.streams (holding r (place c.control.first c.control.waiting) c.queue)
 
 -- ---- a call on a record
 -- the record after a call, and what the call answers
@@ -45,7 +48,7 @@ pub record After : Type 0 where
   pub connection : Connection
   pub answer : Answer Said
 
--- where the queue's arrays are written: a request that is queued is stored, and nothing else is
+-- where the queue is written: a request that is queued is stored, and nothing else is
 abbrev pub Storing : Type 0
 Storing = Said → Connection → Connection
 

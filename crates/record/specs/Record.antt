@@ -1,6 +1,6 @@
 -- The record: what of it the state table keeps, and its standing rules. Document 01, "Connection record"; document 02, request 9.
 -- Assumes nothing.
-use Rattle.std.specs.Prelude.{ℕ, Bool, not, ◌&&◌, List, map, eqb, ltb, leb, ℤ, pos, take, replicate}
+use Rattle.std.specs.Prelude.{ℕ, Bool, not, ◌&&◌, List, map, eqb, ltb, leb, pos, take, replicate}
 use Rattle.states.specs.declared.state.State.{State}
 use Rattle.states.specs.declared.request.Request.{Request}
 use Rattle.states.specs.Requests.{any}
@@ -8,12 +8,13 @@ use Rattle.states.specs.Table.{Open, Table}
 use Rattle.states.specs.Rules.{rules}
 use Rattle.record.specs.declared.record.Control.{Control}
 use Rattle.record.specs.declared.record.Connection.{Connection}
+use Rattle.record.specs.declared.record.Queue.{Queue}
 use Rattle.record.specs.Names.{state_of, is_state}
 use Rattle.record.specs.Ring.{Place, lined, place_at, request_in, unnamed}
 
 -- a record of its parts
-abbrev pub joined : Control → List ℕ → List ℕ → List ℤ → List ℤ → Connection
-joined k streams kinds counts qids = record { control = k; streams = streams; kinds = kinds; counts = counts; qids = qids }
+abbrev pub joined : Control → List ℕ → Queue → Connection
+joined k streams queue = record { control = k; streams = streams; queue = queue }
 
 -- ---- what the table keeps of a record
 abbrev pub state_in : Control → State
@@ -30,16 +31,16 @@ abbrev pub open_in : Control → List ℕ → Open
 open_in k streams = open_of streams k.opened k.next
 
 -- the places in which requests wait, in order, and these requests
-abbrev pub places_in : Control → List ℕ → List ℤ → List ℤ → List Place
-places_in k kinds counts qids = lined (place_at kinds counts qids) k.first k.waiting
+abbrev pub places_in : Control → Queue → List Place
+places_in k queue = lined (place_at queue) k.first k.waiting
 
-abbrev pub waiting_in : Control → List ℕ → List ℤ → List ℤ → List Request
-waiting_in k kinds counts qids = map request_in (places_in k kinds counts qids)
+abbrev pub waiting_in : Control → Queue → List Request
+waiting_in k queue = map request_in (places_in k queue)
 
 abbrev pub kept : Connection → Table
 kept c = record {
   state = state_in c.control;
-  waiting = waiting_in c.control c.kinds c.counts c.qids;
+  waiting = waiting_in c.control c.queue;
   in_flight = is_in_flight c.control;
   streams = open_in c.control c.streams;
   accepted = c.control.accepted;
@@ -53,7 +54,7 @@ bounded k = is_state k.state && (leb k.in_flight 1 && (ltb k.first 32 && (leb k.
 
 -- every place in which a request waits names one
 unfoldable pub named : Connection → Bool
-named c = not (any unnamed (places_in c.control c.kinds c.counts c.qids))
+named c = not (any unnamed (places_in c.control c.queue))
 
 -- and what is kept has document 01's rules
 unfoldable pub keeps_rules : Connection → Bool
@@ -64,7 +65,5 @@ abbrev pub fresh : Connection
 fresh = record {
   control = record { state = 0; in_flight = 0; first = 0; waiting = 0; opened = 0; next = 0; accepted = 0; sent = 0 };
   streams = replicate 8 0;
-  kinds = replicate 32 0;
-  counts = replicate 32 (pos 0);
-  qids = replicate 32 (pos 0);
+  queue = record { kinds = replicate 32 0; counts = replicate 32 (pos 0); qids = replicate 32 (pos 0) };
 }

@@ -3,6 +3,7 @@ use Rattle.std.specs.Prelude.{ℕ, zero, suc, ◌+◌, ◌%◌, Bool, not, ◌||
 use Rattle.states.specs.declared.request.Request.{Request}
 use Rattle.states.specs.Requests.{out_of_range}
 use Rattle.bolt.specs.Requests.{tag, RESET}
+use Rattle.record.specs.declared.record.Queue.{Queue}
 use Rattle.record.specs.Names.{request_of, is_request}
 
 -- the place that many behind one, counted around
@@ -26,8 +27,8 @@ pub record Place : Type 0 where
 abbrev pub kind_at : List ℕ → ℕ → ℕ
 kind_at kinds at = get_or kinds (at % 32) 0
 
-abbrev pub place_at : List ℕ → List ℤ → List ℤ → ℕ → Place
-place_at kinds counts qids at = record { kind = kind_at kinds at; n = get_or counts (at % 32) (pos 0); qid = get_or qids (at % 32) (pos 0) }
+abbrev pub place_at : Queue → ℕ → Place
+place_at queue at = record { kind = kind_at queue.kinds at; n = get_or queue.counts (at % 32) (pos 0); qid = get_or queue.qids (at % 32) (pos 0) }
 
 abbrev pub request_in : Place → Request
 request_in p = request_of p.kind p.n p.qid

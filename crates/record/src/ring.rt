@@ -4,6 +4,7 @@ ghost use Rattle.states.specs.Requests.{any};
 ghost use Rattle.record.specs.Ring.{behind as behindOf, lined, kind_at, place_at, is_reset, request_in};
 
 use crate::names;
+use crate::record::Queue;
 use states::request;
 use states::request::Request;
 
@@ -14,28 +15,28 @@ pub fn behind(at: usize) -> usize
     (at % 32 + 1) % 32
 }
 
-// The request in a place.
-pub fn request_at(kinds: &[u8; 32], counts: &[i64; 32], qids: &[i64; 32], at: usize) -> Request
-    ensures { result ≡ request_in (place_at kinds.now counts.now qids.now at) }
-{
-    let place = at % 32;
-    let n = counts[place];
-    let qid = qids[place];
-    names::request_of(kinds[place], n, qid)
-}
-
-// Whether a RESET is among those that wait.
-pub fn has_reset(kinds: &[u8; 32], first: usize, waiting: usize) -> bool
-    ensures { result ≡ any is_reset (lined (kind_at kinds.now) first waiting) }
-{
-    let mut at = first;
-    let mut left = waiting;
-    while 0 < left {
-        if kinds[at % 32] == request::RESET {
-            return true;
-        }
-        at = behind(at);
-        left -= 1;
+impl Queue {
+    // The request in a place.
+    pub fn request_at(&self, at: usize) -> Request
+        ensures { result ≡ request_in (place_at self.now at) }
+    {
+        let place = at % 32;
+        names::request_of(self.kinds[place], self.counts[place], self.qids[place])
     }
-    false
+
+    // Whether a RESET is among those that wait.
+    #[tactic(auto, using(crate::proofs::Places::passed))]
+    pub fn has_reset(&self, first: usize, waiting: usize) -> bool
+        ensures { result ≡ any is_reset (lined (kind_at self.now.kinds) first waiting) }
+    {
+        // The place goes around the ring beside the count: no iterator says that more plainly.
+        let mut at = first;
+        for _ in 0..waiting {
+            if self.kinds[at % 32] == request::RESET {
+                return true;
+            }
+            at = behind(at);
+        }
+        false
+    }
 }

@@ -1,12 +1,35 @@
 -- What a call answers in document 01's terms, and the rules that every refusal keeps ("Refusal numbers": "Every refusal consumes 0
 -- and changes nothing"; "Values": "Refusals other than 7 to 16 give place 0"; "The caller closes after 5 to 16"). Document 02, request 1,
 -- has 25, 26 and 27 for 16. Assumes nothing.
-use Rattle.std.specs.Prelude.{ℕ, Bool, true, false, ◌&&◌, ◌||◌, List, ◌≡◌, leb, length}
+use Rattle.std.specs.Prelude.{ℕ, Bool, true, false, ◌&&◌, ◌||◌, List, ◌≡◌, leb, length, Result, Ok, Err}
+use Rattle.refusal.specs.Numbers.{number_of}
+use Rattle.refusal.specs.declared.Refusal.{Refusal}
+use Rattle.refusal.specs.declared.Fault.{Fault}
 
 -- a result, or a refusal with its number and its place
 pub data Answer (A : Type 0) : Type 0 where
   returned : A → Answer A
   refused : ℕ → ℕ → Answer A
+
+-- a refusal at a place
+abbrev pub placed : Refusal → ℕ → Fault
+placed why place = record { refusal = why; place = place }
+
+-- ---- what the code answers, in these terms
+-- a refusal of the whole: place 0
+abbrev pub told : {A : Type 0} → Result A Refusal → Answer A
+told (Ok a) = returned a
+told (Err why) = refused (number_of why) 0
+
+-- a refusal with its place
+abbrev pub told_at : {A : Type 0} → Result A Fault → Answer A
+told_at (Ok a) = returned a
+told_at (Err fault) = refused (number_of fault.refusal) fault.place
+
+-- the result made into something else
+abbrev pub mapped : {A B : Type 0} → (A → B) → Answer A → Answer B
+mapped f (returned a) = returned (f a)
+mapped f (refused number place) = refused number place
 
 -- how much input was consumed: what the result says, 0 where refused
 abbrev pub consumed : {A : Type 0} → (A → ℕ) → Answer A → ℕ

@@ -4,62 +4,62 @@
 
 ghost use Rattle.std.specs.Prelude.{◌≡◌};
 ghost use Rattle.refusal.specs.Numbers.{number_of};
-ghost use Rattle.refusal.specs.Answer.{closes_after};
+ghost use Rattle.refusal.specs.Answer.{closes_after, placed};
 
-#[derive(Clone, Copy)]
+#[derive(Clone, Copy, Debug, PartialEq, Eq)]
 pub enum Refusal {
     // Handshake short.
-    HandshakeTruncated,
+    HandshakeTruncated = 1,
     // Preamble wrong.
-    WrongPreamble,
+    WrongPreamble = 2,
     // Nothing in common: the caller sends four zeros.
-    NoCommonVersion,
+    NoCommonVersion = 3,
     // Frame incomplete: the caller waits for more bytes.
-    FrameIncomplete,
+    FrameIncomplete = 4,
     // Empty message, where the version has no keep-alives.
-    EmptyMessage,
+    EmptyMessage = 5,
     // Too long: over 16,384 bytes.
-    TooLong,
+    TooLong = 6,
     // A marker, its size or tag, or its content is missing.
-    ValueTruncated,
+    ValueTruncated = 7,
     // Reserved marker.
-    ReservedMarker,
+    ReservedMarker = 8,
     // Too deep: a seventeenth open container.
-    TooDeep,
+    TooDeep = 9,
     // Not UTF-8.
-    InvalidUtf8,
+    InvalidUtf8 = 10,
     // A Dictionary's key is no String.
-    KeyNotString,
+    KeyNotString = 11,
     // A Dictionary's key comes twice.
-    DuplicateKey,
+    DuplicateKey = 12,
     // Bytes are left over after the value.
-    TrailingBytes,
+    TrailingBytes = 13,
     // Not a known request structure.
-    UnknownRequest,
+    UnknownRequest = 14,
     // Field count.
-    WrongFieldCount,
+    WrongFieldCount = 15,
     // 32 waiting.
-    QueueFull,
+    QueueFull = 17,
     // The connection is DEFUNCT.
-    ConnectionDefunct,
+    ConnectionDefunct = 18,
     // No request in flight, or success with more for a request that has none.
-    UnexpectedReport,
+    UnexpectedReport = 19,
     // 4,294,967,295 accepted.
-    RequestLimitReached,
+    RequestLimitReached = 20,
     // No room in the lent buffer.
-    NoRoom,
+    NoRoom = 21,
     // Empty message or chunk size outside its range, in writing.
-    InvalidChunking,
+    InvalidChunking = 22,
     // Line over 40,000 characters, not pairs of upper-case hexadecimal digits, or with bytes after its frame.
-    InvalidLine,
+    InvalidLine = 23,
     // The record breaks a standing rule.
-    InvalidRecord,
+    InvalidRecord = 24,
     // A required entry is absent.
-    MissingEntry,
+    MissingEntry = 25,
     // A field or an entry of another kind.
-    WrongKind,
+    WrongKind = 26,
     // A number or a word out of its range.
-    OutOfRange,
+    OutOfRange = 27,
 }
 
 impl Refusal {
@@ -67,33 +67,16 @@ impl Refusal {
     pub fn number(self) -> u8
         ensures { result ≡ number_of self }
     {
-        match self {
-            Refusal::HandshakeTruncated => 1,
-            Refusal::WrongPreamble => 2,
-            Refusal::NoCommonVersion => 3,
-            Refusal::FrameIncomplete => 4,
-            Refusal::EmptyMessage => 5,
-            Refusal::TooLong => 6,
-            Refusal::ValueTruncated => 7,
-            Refusal::ReservedMarker => 8,
-            Refusal::TooDeep => 9,
-            Refusal::InvalidUtf8 => 10,
-            Refusal::KeyNotString => 11,
-            Refusal::DuplicateKey => 12,
-            Refusal::TrailingBytes => 13,
-            Refusal::UnknownRequest => 14,
-            Refusal::WrongFieldCount => 15,
-            Refusal::QueueFull => 17,
-            Refusal::ConnectionDefunct => 18,
-            Refusal::UnexpectedReport => 19,
-            Refusal::RequestLimitReached => 20,
-            Refusal::NoRoom => 21,
-            Refusal::InvalidChunking => 22,
-            Refusal::InvalidLine => 23,
-            Refusal::InvalidRecord => 24,
-            Refusal::MissingEntry => 25,
-            Refusal::WrongKind => 26,
-            Refusal::OutOfRange => 27,
+        self as u8
+    }
+
+    // The refusal at a place.
+    pub fn at(self, place: usize) -> Fault
+        ensures { result ≡ placed self place }
+    {
+        Fault {
+            refusal: self,
+            place,
         }
     }
 
@@ -101,13 +84,22 @@ impl Refusal {
     pub fn closes(self) -> bool
         ensures { result ≡ closes_after (number_of self) }
     {
-        let number = self.number();
-        if number < 16 {
-            return 5 <= number;
-        }
-        if number < 25 {
-            return false;
-        }
-        number <= 27
+        matches!(self.number(), 5..=15 | 25..=27)
+    }
+}
+
+// Why a message is refused, and where: for most refusals the offset of a marker.
+#[derive(Clone, Copy, Debug, PartialEq, Eq)]
+pub struct Fault {
+    pub refusal: Refusal,
+    pub place: usize,
+}
+
+// A refusal of the whole gives place 0.
+impl From<Refusal> for Fault {
+    ghost from_gives = { λ why fault. fault ≡ placed why 0 };
+
+    fn from(refusal: Refusal) -> Fault {
+        refusal.at(0)
     }
 }

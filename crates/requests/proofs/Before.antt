@@ -2,26 +2,24 @@
 use mathlib.Core.Path.{◌≡◌, refl, sym}
 use mathlib.Core.Bool.{Bool, true, false, cond}
 use mathlib.Core.List.{List}
-use Prim.Native.Nat.{ℕ}
+use Prim.Native.Nat.{ℕ, ◌<◌}
 use Rattle.refusal.specs.Answer.{Answer, returned, refused, and_then}
 use Rattle.markers.specs.Value.{Value, Items, no_items, item, Entries, no-entries, entry}
 use Rattle.markers.proofs.ByKind.{of-each}
 use Rattle.slices.specs.Equality.{same}
 use Rattle.entries.specs.Numbering.{name_of}
-use Rattle.entries.specs.Lookup.{held, under}
+use Rattle.entries.specs.Lookup.{held, under, Lookup}
 use Rattle.entries.specs.View.{seen}
 use Rattle.markers.specs.ByKind.{on_dictionary}
 use Rattle.requests.specs.Checks.{string_at, dictionary_at}
-use Rattle.requests.specs.Requests.{one, three, extra, run, transaction, tagged, request_in}
-use Rattle.requests.specs.Private.Views.{string_seen, required_text, asks_seen, asks}
+use Rattle.requests.specs.Requests.{one, three, extra, run, transaction, hello, begin, discard, pull, tagged, request_in}
+use Rattle.requests.specs.Private.Views.{string_seen, Views, required_seen, hello_seen, begin_seen, discard_seen, pull_seen}
 use Rattle.requests.specs.Before as Before
 use Rattle.requests.specs.Before.{sixteen}
-use Rattle.entries.specs.declared.view.Span.{Span}
+use Rattle.markers.specs.declared.extent.Span.{Span}
 use Rattle.requests.specs.declared.request.Request.{Request}
 use Rattle.requests.specs.declared.request.Request.TheVariants as R
-use Rattle.requests.specs.declared.extra.Kind.{Kind}
-use Rattle.requests.specs.declared.extra.Kind.TheVariants as K
-use Rattle.requests.proofs.Viewed.{asks-seen, transaction-seen}
+use Rattle.requests.proofs.Viewed.{hello-seen, transaction-seen, begin-seen, discard-seen, pull-seen}
 
 under-seen : (es : Entries) (name : List ℕ) → Before.under es name ≡ seen (under es name)
 unfolding Before.under under
@@ -40,17 +38,18 @@ entries-of at v f g h =
     refl (λ _. refl) (λ _. refl) (λ _. refl) (λ _ _. refl) (λ _ _. refl) (λ _. refl) h (λ _ _. refl) v
 
 -- a request whose one field is its extra
-extra-alike : (k : Kind) (minor : ℕ) (fields : Items) → one (Before.extra (asks_seen sixteen k minor)) fields ≡ one (extra sixteen (asks sixteen k minor)) fields
-extra-alike k minor no_items = refl
-extra-alike k minor (item at v no_items) =
-    entries-of at v _ (λ es. asks sixteen k minor at (under es)) (λ es. asks-seen sixteen (Before.under es) (under es) (λ j h. under-seen es (name_of j)) k minor at)
-extra-alike k minor (item at v (item p w vs)) = refl
+extra-alike : (f : ℕ → Views → Answer Request) (g : ℕ → Lookup → Answer Request)
+    → ((e : Views) (e' : Lookup) → ((k : ℕ) → k < 12 → e (name_of k) ≡ seen (e' (name_of k))) → (at : ℕ) → f at e ≡ g at e')
+    → (fields : Items) → one (Before.extra f) fields ≡ one (extra sixteen g) fields
+extra-alike f g h no_items = refl
+extra-alike f g h (item at v no_items) = entries-of at v _ (λ es. g at (under es)) (λ es. h (Before.under es) (under es) (λ k i. under-seen es (name_of k)) at)
+extra-alike f g h (item at v (item p w vs)) = refl
 
 -- RUN: a query, then the parameters
 query-alike : (q : ℕ) (v : Value) (f g : Span → Answer Request) → ((s : Span) → f s ≡ g s)
-    → and_then (string_seen sixteen (seen (held q v))) (λ t. and_then (required_text sixteen q t) f) ≡ and_then (string_at sixteen q v) g
+    → and_then (string_seen sixteen (seen (held q v))) (λ t. and_then (required_seen sixteen q t) f) ≡ and_then (string_at sixteen q v) g
 query-alike q v f g h =
-    of-each (λ w. and_then (string_seen sixteen (seen (held q w))) (λ t. and_then (required_text sixteen q t) f) ≡ and_then (string_at sixteen q w) g)
+    of-each (λ w. and_then (string_seen sixteen (seen (held q w))) (λ t. and_then (required_seen sixteen q t) f) ≡ and_then (string_at sixteen q w) g)
     refl (λ _. refl) (λ _. refl) (λ _. refl) (λ _ _. refl) (λ start content. h _) (λ _. refl) (λ _. refl) (λ _ _. refl) v
 
 parameters-alike : (p : ℕ) (v : Value) (x : Answer Request) (g : ℕ → Answer Request) → x ≡ g p → Before.entries_of p v (λ _. x) ≡ and_then (dictionary_at sixteen p v) g
@@ -76,7 +75,13 @@ three-alike (item q query (item p parameters (item x more (item y v vs)))) = ref
 tagged-alike : (minor given : ℕ) (fields : Items) → Before.tagged minor given fields ≡ tagged sixteen minor given fields
 unfolding Before.tagged tagged
 tagged-alike minor given fields =
-    rw (extra-alike K.Hello minor fields, three-alike fields, extra-alike K.Begin minor fields, extra-alike K.Discard minor fields, extra-alike K.Pull minor fields)
+    rw (
+      extra-alike (hello_seen sixteen minor) (hello sixteen minor) (λ e e' a at. hello-seen sixteen e e' a minor at) fields,
+      three-alike fields,
+      extra-alike (begin_seen sixteen) (begin sixteen) (begin-seen sixteen) fields,
+      extra-alike (discard_seen sixteen) (discard sixteen) (discard-seen sixteen) fields,
+      extra-alike (pull_seen sixteen) (pull sixteen) (pull-seen sixteen) fields,
+    )
 
 pub same-request : (minor : ℕ) (v : Value) → request_in sixteen minor v ≡ Before.request_in minor v
 same-request minor v =

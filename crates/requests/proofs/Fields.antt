@@ -16,34 +16,35 @@ use Rattle.values.specs.Walk.{peek_at, skip_at}
 use Rattle.values.specs.Private.Placement.{Reads, ItemsLie, PartsLie}
 use Rattle.markers.specs.declared.kind.Leaf.{Leaf}
 use Rattle.markers.specs.declared.kind.Leaf.TheVariants as L
-use Rattle.values.specs.declared.walk.Skipped.TheVariants as S
 use Rattle.values.proofs.Placement.{placement}
 use Rattle.values.proofs.Steps as Steps
 use Rattle.values.proofs.Steps.{ValueTells, value_tells, entries-count}
 use Rattle.entries.specs.Numbering.{name_of}
-use Rattle.entries.specs.Lookup.{under}
-use Rattle.entries.specs.View.{span, seen}
+use Rattle.entries.specs.Lookup.{under, Lookup}
+use Rattle.entries.specs.View.{seen}
 use Rattle.markers.specs.ByKind.{on_dictionary}
 use Rattle.requests.specs.Checks.{complaints, wrong_kind, string_at, dictionary_at}
 use Rattle.requests.specs.Requests.{transaction, extra, run, none, one, three}
-use Rattle.requests.specs.Private.Views.{asks_seen, transaction_seen, asks}
-use Rattle.entries.specs.Walk.{string_found, on_text, entries_head, entries_found, noted_from, nothing, entry_in}
-use Rattle.requests.specs.Private.Fields.{Fields}
-use Rattle.entries.specs.declared.view.Span.{Span}
-use Rattle.entries.specs.declared.view.Text.{Text}
-use Rattle.entries.specs.declared.view.Text.TheVariants as T
+use Rattle.requests.specs.Private.Views.{transaction_seen}
+use Rattle.entries.specs.Walk.{string_found, entries_head, entries_found, noted_from, nothing, entry_in}
+use Rattle.requests.specs.Private.Fields.{Fields, ExtraIs}
+use Rattle.std.specs.Prelude.{Option, Some, None, Ok, Err, ok_or}
+use Rattle.std.specs.Option.{option_map_or}
+use Rattle.markers.specs.Extents.{span}
+use Rattle.markers.specs.declared.extent.Span.{Span}
 use Rattle.requests.specs.declared.request.Transaction.{Transaction}
 use Rattle.requests.specs.declared.request.Request.{Request}
 use Rattle.requests.specs.declared.request.Request.TheVariants as R
-use Rattle.requests.specs.declared.extra.Kind.{Kind}
-use Rattle.entries.specs.declared.Entries.TheVariants as E
+use Rattle.entries.specs.declared.Entries.{Entries as Lying}
 use Rattle.markers.proofs.ByKind.{of-each}
 use Rattle.entries.proofs.Trees.{text_of, text-there}
 use Rattle.entries.proofs.Lookups.{noted-there}
-use Rattle.requests.proofs.Viewed.{asks-seen, transaction-seen}
+use Rattle.requests.proofs.Viewed.{transaction-seen}
 
-clash : ◌≡◌ {A = ℕ} 0 1 → ⊥
-clash e = omega arith
+-- what stands for nothing where something is wanted
+pub missing : {A E : Type 0} (o : Option A) (why x : E) → Err x ≡ ok_or o why → (o ≡ None) × (x ≡ why)
+missing None why x e = (refl, cc e)
+missing (Some a) why x e = absurd (cc e)
 
 -- ---- how many there are
 pub none_is : (n : ℕ) (vs : Items) (a : Answer Request) → n ≡ count vs → cond (eqb n 0) a (refused 15 0) ≡ none a vs
@@ -142,12 +143,12 @@ module _ (s : List ℕ) (d at : ℕ) where
   -- its entries, as they were read
   leaf-no-dictionary : (k : Leaf) (p n q : ℕ) (es : Entries) (end : ℕ) → parsed (leaf_value s k p n) q ≡ parsed (dictionary es) end → ⊥
   unfolding leaf_value
-  leaf-no-dictionary L.Null p n q es end e = let z : ◌≡◌ {A = ℕ} 0 1 = cc e in clash z
-  leaf-no-dictionary L.Boolean p n q es end e = let z : ◌≡◌ {A = ℕ} 0 1 = cc e in clash z
-  leaf-no-dictionary L.Integer p n q es end e = let z : ◌≡◌ {A = ℕ} 0 1 = cc e in clash z
-  leaf-no-dictionary L.Float p n q es end e = let z : ◌≡◌ {A = ℕ} 0 1 = cc e in clash z
-  leaf-no-dictionary L.Bytes p n q es end e = let z : ◌≡◌ {A = ℕ} 0 1 = cc e in clash z
-  leaf-no-dictionary L.String p n q es end e = let z : ◌≡◌ {A = ℕ} 0 1 = cc e in clash z
+  leaf-no-dictionary L.Null p n q es end e = cc e
+  leaf-no-dictionary L.Boolean p n q es end e = cc e
+  leaf-no-dictionary L.Integer p n q es end e = cc e
+  leaf-no-dictionary L.Float p n q es end e = cc e
+  leaf-no-dictionary L.Bytes p n q es end e = cc e
+  leaf-no-dictionary L.String p n q es end e = cc e
 
   dictionary-reads : (es : Entries) (end : ℕ) → Reads s d at (dictionary es) end
       → entries s (value_at s (d - 1)) [] (count_entries es) (first_entry es end) ≡ parsed es end
@@ -156,9 +157,9 @@ module _ (s : List ℕ) (d at : ℕ) where
       by : {g : Parse Value} → ValueTells s d at g → g ≡ parsed (dictionary es) end
           → entries s (value_at s (d - 1)) [] (count_entries es) (first_entry es end) ≡ parsed es end
       by (Steps.leaf k p n x t) e = absurd (leaf-no-dictionary k p n (p + n) es end e)
-      by (Steps.list p n vs q x h) e = let z : ◌≡◌ {A = ℕ} 0 1 = cc e in absurd (clash z)
-      by (Steps.structure p n vs q x l h) e = let z : ◌≡◌ {A = ℕ} 0 1 = cc e in absurd (clash z)
-      by (Steps.none why place) e = let z : ◌≡◌ {A = ℕ} 0 1 = cc e in absurd (clash z)
+      by (Steps.list p n vs q x h) e = absurd (cc e)
+      by (Steps.structure p n vs q x l h) e = absurd (cc e)
+      by (Steps.none why place) e = absurd (cc e)
       by (Steps.dictionary p n fs q x h) e =
           let a : fs ≡ es = cc e in
           let b : q ≡ end = cc e in
@@ -170,11 +171,11 @@ module _ (s : List ℕ) (d at : ℕ) where
     found-head = ap entries_found (sym (placement s d at shallow v end r).peeked)
 
     -- none is found: it is no Dictionary
-    pub no-dictionary : {A : Type 0} (f : Entries → Answer A) → E.None ≡ entries_found (peek_at s at) → wrong_kind complaints at ≡ on_dictionary f (wrong_kind complaints at) v
+    pub no-dictionary : {A : Type 0} (f : Entries → Answer A) → None ≡ entries_found (peek_at s at) → wrong_kind complaints at ≡ on_dictionary f (wrong_kind complaints at) v
     unfolding head_of
     no-dictionary f e = by v (e ∙ found-head)
       where
-        by : (v : Value) → E.None ≡ entries_head (head_of v end) → wrong_kind complaints at ≡ on_dictionary f (wrong_kind complaints at) v
+        by : (v : Value) → None ≡ entries_head (head_of v end) → wrong_kind complaints at ≡ on_dictionary f (wrong_kind complaints at) v
         by null e = refl
         by (boolean b) e = refl
         by (integer z) e = refl
@@ -182,7 +183,7 @@ module _ (s : List ℕ) (d at : ℕ) where
         by (bytes start content) e = refl
         by (string start content) e = refl
         by (list vs) e = refl
-        by (dictionary es) e = let z : ◌≡◌ {A = ℕ} 0 1 = cc e in absurd (clash z)
+        by (dictionary es) e = absurd (cc e)
         by (structure tag vs) e = refl
 
     -- entries are found: they are the Dictionary's, and what the walk notes is what they say
@@ -191,68 +192,69 @@ module _ (s : List ℕ) (d at : ℕ) where
       pub is : v ≡ dictionary es
       pub lookup : (k : ℕ) → k < 12 → entry_in s (noted_from s n p nothing) (name_of k) ≡ seen (under es (name_of k))
 
-    pub dictionary-found : (p n : ℕ) → E.From p n ≡ entries_found (peek_at s at) → Found p n
+    pub dictionary-found : (p n : ℕ) → Some (record { first = p; count = n }) ≡ entries_found (peek_at s at) → Found p n
     unfolding head_of
     dictionary-found p n e = by v refl (e ∙ found-head)
       where
-        by : (w : Value) → v ≡ w → E.From p n ≡ entries_head (head_of w end) → Found p n
-        by null g e = let z : ◌≡◌ {A = ℕ} 0 1 = cc e in absurd (clash z)
-        by (boolean b) g e = let z : ◌≡◌ {A = ℕ} 0 1 = cc e in absurd (clash z)
-        by (integer z) g e = let z : ◌≡◌ {A = ℕ} 0 1 = cc e in absurd (clash z)
-        by (float bits) g e = let z : ◌≡◌ {A = ℕ} 0 1 = cc e in absurd (clash z)
-        by (bytes start content) g e = let z : ◌≡◌ {A = ℕ} 0 1 = cc e in absurd (clash z)
-        by (string start content) g e = let z : ◌≡◌ {A = ℕ} 0 1 = cc e in absurd (clash z)
-        by (list vs) g e = let z : ◌≡◌ {A = ℕ} 0 1 = cc e in absurd (clash z)
-        by (structure tag vs) g e = let z : ◌≡◌ {A = ℕ} 0 1 = cc e in absurd (clash z)
+        by : (w : Value) → v ≡ w → Some (record { first = p; count = n }) ≡ entries_head (head_of w end) → Found p n
+        by null g e = absurd (cc e)
+        by (boolean b) g e = absurd (cc e)
+        by (integer z) g e = absurd (cc e)
+        by (float bits) g e = absurd (cc e)
+        by (bytes start content) g e = absurd (cc e)
+        by (string start content) g e = absurd (cc e)
+        by (list vs) g e = absurd (cc e)
+        by (structure tag vs) g e = absurd (cc e)
         by (dictionary es) g e =
-            let a : p ≡ first_entry es end = cc e in
-            let b : n ≡ count_entries es = cc e in
+            let f : ◌≡◌ {A = Lying} (record { first = p; count = n }) (record { first = first_entry es end; count = count_entries es }) = cc e in
+            let a : p ≡ first_entry es end = ap (λ (x : Lying). x.first) f in
+            let b : n ≡ count_entries es = ap (λ (x : Lying). x.count) f in
             let h = dictionary-reads es end (rw g at r) in
             record { es = es; is = g; lookup = rw (a, b) (noted-there s (d - 1) (omega arith) (count_entries es) (first_entry es end) es end h) }
 
 -- ---- a request whose one field is its extra
-module _ (s : List ℕ) (at n : ℕ) (vs : Items) (fields : Fields s at n vs) (alone : n ≡ 1) (k : Kind) (minor : ℕ) where
+module _ (s : List ℕ) (at n : ℕ) (vs : Items) (fields : Fields s at n vs) (alone : n ≡ 1) where
   field : One s at vs
   field = one_field s at n vs fields alone
-
-  is_one : extra complaints (asks complaints k minor) at field.v ≡ one (extra complaints (asks complaints k minor)) vs
-  is_one = ap (one (extra complaints (asks complaints k minor))) (sym field.all)
 
   shallow : 15 ≤ most_open
   shallow = omega arith
 
-  pub no_extra : E.None ≡ entries_found (peek_at s at) → wrong_kind complaints at ≡ one (extra complaints (asks complaints k minor)) vs
-  no_extra e = no-dictionary s 15 at shallow field.v field.end field.reads (λ es. asks complaints k minor at (under es)) e ∙ is_one
+  pub no_extra : None ≡ entries_found (peek_at s at) → (f : ℕ → Lookup → Answer Request) → one (extra complaints f) vs ≡ wrong_kind complaints at
+  no_extra e f =
+      ap (one (extra complaints f)) field.all
+      ∙ sym (no-dictionary s 15 at shallow field.v field.end field.reads (λ es. f at (under es)) e)
 
-  pub extra-there : (p m : ℕ) → E.From p m ≡ entries_found (peek_at s at) → (found : List ℕ) → found ≡ noted_from s m p nothing
-      → asks_seen complaints k minor at (entry_in s found) ≡ one (extra complaints (asks complaints k minor)) vs
-  extra-there p m e found f =
-      let d = dictionary-found s 15 at shallow field.v field.end field.reads p m e in
-      ap (λ (l : List ℕ). asks_seen complaints k minor at (entry_in s l)) f
-      ∙ asks-seen complaints (entry_in s (noted_from s m p nothing)) (under d.es) d.lookup k minor at
-      ∙ ap (extra complaints (asks complaints k minor) at) (sym d.is) ∙ is_one
+  pub extra-there : (p m : ℕ) → Some (record { first = p; count = m }) ≡ entries_found (peek_at s at)
+      → (found : List ℕ) → found ≡ noted_from s m p nothing → ExtraIs s at vs (Ok found)
+  extra-there p m e found h =
+      let d = dictionary-found s 15 at shallow field.v field.end field.reads p m e in (
+        under d.es,
+        (λ k i. ap (λ (l : List ℕ). entry_in s l (name_of k)) h ∙ d.lookup k i),
+        (λ f. ap (one (extra complaints f)) field.all ∙ ap (extra complaints f at) d.is),
+      )
 
 -- ---- RUN
 -- a query that is a String, or any other
 query-is : (at : ℕ) (v : Value) (f : Span → Answer Request)
-    → on_text (text_of v) (wrong_kind complaints at) f ≡ and_then (string_at complaints at v) f
+    → option_map_or f (text_of v) (wrong_kind complaints at) ≡ and_then (string_at complaints at v) f
 query-is at v f =
-    of-each (λ w. on_text (text_of w) (wrong_kind complaints at) f ≡ and_then (string_at complaints at w) f)
+    of-each (λ w. option_map_or f (text_of w) (wrong_kind complaints at) ≡ and_then (string_at complaints at w) f)
     refl (λ _. refl) (λ _. refl) (λ _. refl) (λ _ _. refl) (λ _ _. refl) (λ _. refl) (λ _. refl) (λ _ _. refl) v
 
 -- a String ends where its content does
-query-ends : (s : List ℕ) (d at : ℕ) (v : Value) (end : ℕ) (c : Span) → PartsLie s d v end → T.At c ≡ text_of v → end ≡ c.start + c.size
-query-ends s d at null end c p e = let z : ◌≡◌ {A = ℕ} 0 1 = cc e in absurd (clash z)
-query-ends s d at (boolean b) end c p e = let z : ◌≡◌ {A = ℕ} 0 1 = cc e in absurd (clash z)
-query-ends s d at (integer z) end c p e = let z : ◌≡◌ {A = ℕ} 0 1 = cc e in absurd (clash z)
-query-ends s d at (float bits) end c p e = let z : ◌≡◌ {A = ℕ} 0 1 = cc e in absurd (clash z)
-query-ends s d at (bytes start content) end c p e = let z : ◌≡◌ {A = ℕ} 0 1 = cc e in absurd (clash z)
+query-ends : (s : List ℕ) (d at : ℕ) (v : Value) (end : ℕ) (c : Span) → PartsLie s d v end → Some c ≡ text_of v → end ≡ c.start + c.size
+query-ends s d at null end c p e = absurd (cc e)
+query-ends s d at (boolean b) end c p e = absurd (cc e)
+query-ends s d at (integer z) end c p e = absurd (cc e)
+query-ends s d at (float bits) end c p e = absurd (cc e)
+query-ends s d at (bytes start content) end c p e = absurd (cc e)
 query-ends s d at (string start content) end c p e =
     let a : c ≡ span start (length content) = cc e in
     rw a (sym p.ends)
-query-ends s d at (list vs) end c p e = let z : ◌≡◌ {A = ℕ} 0 1 = cc e in absurd (clash z)
-query-ends s d at (dictionary es) end c p e = let z : ◌≡◌ {A = ℕ} 0 1 = cc e in absurd (clash z)
-query-ends s d at (structure tag vs) end c p e = let z : ◌≡◌ {A = ℕ} 0 1 = cc e in absurd (clash z)
+query-ends s d at (list vs) end c p e = absurd (cc e)
+query-ends s d at (dictionary es) end c p e = absurd (cc e)
+query-ends s d at (structure tag vs) end c p e = absurd (cc e)
 
 module _ (s : List ℕ) (at n : ℕ) (vs : Items) (fields : Fields s at n vs) (all : n ≡ 3) where
   three-there : Three s at vs
@@ -271,31 +273,31 @@ module _ (s : List ℕ) (at n : ℕ) (vs : Items) (fields : Fields s at n vs) (a
   after-query : Span → Answer Request
   after-query query = and_then (dictionary_at complaints three-there.p three-there.w) (with-extra query)
 
-  by-query : on_text (string_found (peek_at s at)) (wrong_kind complaints at) after-query ≡ three (run complaints) vs
+  by-query : option_map_or after-query (string_found (peek_at s at)) (wrong_kind complaints at) ≡ three (run complaints) vs
   unfolding run after-query with-extra
   by-query =
-      ap (λ (t : Text). on_text t (wrong_kind complaints at) after-query) (text-there s 15 deep at three-there.v three-there.p three-there.first)
+      ap (λ (t : Option Span). option_map_or after-query t (wrong_kind complaints at)) (text-there s 15 deep at three-there.v three-there.p three-there.first)
       ∙ query-is at three-there.v after-query ∙ is-three
 
-  pub no-query : T.Absent ≡ string_found (peek_at s at) → wrong_kind complaints at ≡ three (run complaints) vs
-  no-query e = ap (λ (t : Text). on_text t (wrong_kind complaints at) after-query) e ∙ by-query
+  pub no-query : None ≡ string_found (peek_at s at) → wrong_kind complaints at ≡ three (run complaints) vs
+  no-query e = ap (λ (t : Option Span). option_map_or after-query t (wrong_kind complaints at)) e ∙ by-query
 
-  module _ (query : Span) (given : T.At query ≡ string_found (peek_at s at)) where
+  module _ (query : Span) (given : Some query ≡ string_found (peek_at s at)) where
     with-query : after-query query ≡ three (run complaints) vs
-    with-query = ap (λ (t : Text). on_text t (wrong_kind complaints at) after-query) given ∙ by-query
+    with-query = ap (λ (t : Option Span). option_map_or after-query t (wrong_kind complaints at)) given ∙ by-query
 
     -- the parameters begin where the query ends
     ends : three-there.p ≡ query.start + query.size
     ends = query-ends s 15 at three-there.v three-there.p query (placement s 15 at deep three-there.v three-there.p three-there.first).parts
         (given ∙ text-there s 15 deep at three-there.v three-there.p three-there.first)
 
-    pub no-parameters : E.None ≡ entries_found (peek_at s (query.start + query.size)) → wrong_kind complaints (query.start + query.size) ≡ three (run complaints) vs
+    pub no-parameters : None ≡ entries_found (peek_at s (query.start + query.size)) → wrong_kind complaints (query.start + query.size) ≡ three (run complaints) vs
     unfolding after-query
     no-parameters e =
         let none = no-dictionary s 15 three-there.p deep three-there.w three-there.q three-there.second (λ es. returned three-there.p) (rw (← ends) at e) in
         rw (← ends) (ap (λ (a : Answer ℕ). and_then a (with-extra query)) none ∙ with-query)
 
-    module _ (p m : ℕ) (parameters : E.From p m ≡ entries_found (peek_at s (query.start + query.size))) where
+    module _ (p m : ℕ) (parameters : Some (record { first = p; count = m }) ≡ entries_found (peek_at s (query.start + query.size))) where
       -- the extra, and what it makes of the request
       after-parameters : (x : Value) → Answer Request
       after-parameters x = extra complaints (λ at e. and_then (transaction complaints e) (λ t. returned (R.Run query (query.start + query.size) t))) three-there.q x
@@ -307,22 +309,22 @@ module _ (s : List ℕ) (at n : ℕ) (vs : Items) (fields : Fields s at n vs) (a
           let w : after-query query ≡ three (run complaints) vs = with-query in
           rw (d.is, ends) at w
 
-      skipped : S.To three-there.q ≡ skip_at s (query.start + query.size)
+      skipped : Some three-there.q ≡ skip_at s (query.start + query.size)
       skipped = rw ends at (placement s 15 three-there.p deep three-there.w three-there.q three-there.second).skipped
 
-      pub not-cut : S.Nothing ≡ skip_at s (query.start + query.size) → ⊥
-      not-cut e = let f : S.Nothing ≡ S.To three-there.q = e ∙ sym skipped in let z : ◌≡◌ {A = ℕ} 0 1 = cc f in clash z
+      pub not-cut : None ≡ skip_at s (query.start + query.size) → ⊥
+      not-cut e = let f : None ≡ Some three-there.q = e ∙ sym skipped in cc f
 
-      module _ (q : ℕ) (e : S.To q ≡ skip_at s (query.start + query.size)) where
+      module _ (q : ℕ) (e : Some q ≡ skip_at s (query.start + query.size)) where
         at-extra : three-there.q ≡ q
-        at-extra = let f : S.To three-there.q ≡ S.To q = skipped ∙ sym e in cc f
+        at-extra = let f : Some three-there.q ≡ Some q = skipped ∙ sym e in cc f
 
-        pub no-run-extra : E.None ≡ entries_found (peek_at s q) → wrong_kind complaints q ≡ three (run complaints) vs
+        pub no-run-extra : None ≡ entries_found (peek_at s q) → wrong_kind complaints q ≡ three (run complaints) vs
         unfolding after-parameters
         no-run-extra f =
             rw (← at-extra) (no-dictionary s 15 three-there.q deep three-there.x three-there.end three-there.third _ (rw (← at-extra) at f) ∙ with-parameters)
 
-        pub run-there : (f k : ℕ) → E.From f k ≡ entries_found (peek_at s q) → (found : List ℕ) → found ≡ noted_from s k f nothing
+        pub run-there : (f k : ℕ) → Some (record { first = f; count = k }) ≡ entries_found (peek_at s q) → (found : List ℕ) → found ≡ noted_from s k f nothing
             → and_then (transaction_seen complaints (entry_in s found)) (λ t. returned (R.Run query (query.start + query.size) t)) ≡ three (run complaints) vs
         unfolding after-parameters
         run-there f k g found h =

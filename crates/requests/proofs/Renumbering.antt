@@ -25,10 +25,7 @@ use Rattle.requests.specs.Requests as Meaning
 use Rattle.requests.specs.Renumbering.{renumbered, renamed, was, Claim}
 use Rattle.requests.specs.Before as Before
 use Rattle.requests.specs.Before.{sixteen}
-use Rattle.entries.specs.declared.view.Text.TheVariants as T
-use Rattle.entries.specs.declared.view.Place.TheVariants as P
-use Rattle.entries.specs.declared.view.Mode.TheVariants as M
-use Rattle.requests.specs.declared.request.Number.TheVariants as N
+use Rattle.std.specs.Prelude.{Some, None}
 use Rattle.requests.specs.declared.request.Request.{Request}
 use Rattle.requests.specs.declared.request.Request.TheVariants as R
 use Rattle.requests.proofs.Before.{same-request}
@@ -110,20 +107,20 @@ module _ (f : ℕ → ℕ) where
     unfolding hello
     hello-in minor at e =
         and-then (required c (string_at c) at (e Name.user-agent)) _ _ _ (required-in _ _ string-at at (e Name.user-agent)) (λ agent.
-        and-then (text c (e Name.scheme)) _ _ _ (optional-in _ _ string-at T.Absent T.At (e Name.scheme)) (λ scheme.
-        and-then (text c (e Name.principal)) _ _ _ (optional-in _ _ string-at T.Absent T.At (e Name.principal)) (λ principal.
-        and-then (text c (e Name.credentials)) _ _ _ (optional-in _ _ string-at T.Absent T.At (e Name.credentials)) (λ credentials.
+        and-then (text c (e Name.scheme)) _ _ _ (optional-in _ _ string-at None Some (e Name.scheme)) (λ scheme.
+        and-then (text c (e Name.principal)) _ _ _ (optional-in _ _ string-at None Some (e Name.principal)) (λ principal.
+        and-then (text c (e Name.credentials)) _ _ _ (optional-in _ _ string-at None Some (e Name.credentials)) (λ credentials.
         and-then (Meaning.dictionary c (cond (leb 1 minor) (e Name.routing) absent)) _ _ _
-        (optional-in _ _ dictionary-at P.Absent P.At (cond (leb 1 minor) (e Name.routing) absent)) (λ routing. refl)))))
+        (optional-in _ _ dictionary-at None Some (cond (leb 1 minor) (e Name.routing) absent)) (λ routing. refl)))))
 
     transaction-in : (e : Lookup) → renumbered f (transaction c e) ≡ transaction (renamed f c) e
     unfolding transaction
     transaction-in e =
-        and-then (list_of_strings c (e Name.bookmarks)) _ _ _ (optional-in _ _ list_at P.Absent P.At (e Name.bookmarks)) (λ bookmarks.
-        and-then (optional (integer_at c non_negative) N.Absent N.Is (e Name.tx-timeout)) _ _ _ (optional-in _ _ (integer-at non_negative) N.Absent N.Is (e Name.tx-timeout)) (λ timeout.
-        and-then (Meaning.dictionary c (e Name.tx-metadata)) _ _ _ (optional-in _ _ dictionary-at P.Absent P.At (e Name.tx-metadata)) (λ metadata.
-        and-then (optional (mode_at c) M.Absent (λ mode. mode) (e Name.mode)) _ _ _ (optional-in _ _ mode-at M.Absent (λ mode. mode) (e Name.mode)) (λ access.
-        and-then (text c (e Name.db)) _ _ _ (optional-in _ _ string-at T.Absent T.At (e Name.db)) (λ db. refl)))))
+        and-then (list_of_strings c (e Name.bookmarks)) _ _ _ (optional-in _ _ list_at None Some (e Name.bookmarks)) (λ bookmarks.
+        and-then (optional (integer_at c non_negative) None Some (e Name.tx-timeout)) _ _ _ (optional-in _ _ (integer-at non_negative) None Some (e Name.tx-timeout)) (λ timeout.
+        and-then (Meaning.dictionary c (e Name.tx-metadata)) _ _ _ (optional-in _ _ dictionary-at None Some (e Name.tx-metadata)) (λ metadata.
+        and-then (optional (mode_at c) None Some (e Name.mode)) _ _ _ (optional-in _ _ mode-at None Some (e Name.mode)) (λ access.
+        and-then (text c (e Name.db)) _ _ _ (optional-in _ _ string-at None Some (e Name.db)) (λ db. refl)))))
 
     batch-in : (at : ℕ) (e : Lookup) → renumbered f (batch c at e) ≡ batch (renamed f c) at e
     unfolding batch

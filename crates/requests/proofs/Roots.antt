@@ -4,23 +4,23 @@ use mathlib.Core.List.{List}
 use Prim.Native.Nat.{ℕ}
 use native.Mathlib.Omega.{arith}
 use lib.ListN.{length}
-use Rattle.refusal.specs.Answer.{returned, refused}
+use Rattle.std.specs.Prelude.{Result}
+use Rattle.refusal.specs.Answer.{returned, refused, told_at}
+use Rattle.refusal.specs.declared.Fault.{Fault}
 use Rattle.markers.specs.Value.{Value, null, boolean, integer, float, bytes, string, list, dictionary, structure, count, first}
 use Rattle.values.specs.Decode.{decode}
 use Rattle.markers.specs.Extents.{most_open}
-use Rattle.values.specs.Reading.{head_of, Found, tell_message}
+use Rattle.values.specs.Reading.{head_of, tell_message}
+use Rattle.values.specs.declared.read.Found.{Found}
 use Rattle.values.specs.Private.Placement.{PartsLie}
 use Rattle.values.specs.declared.head.Head.{Head}
 use Rattle.values.specs.declared.head.Head.TheVariants as H
 use Rattle.values.proofs.Answers.{told-value, told-refusal, decode-reads}
 use Rattle.values.proofs.Placement.{placement}
 use Rattle.requests.specs.Checks.{complaints}
-use Rattle.requests.specs.Requests.{tagged, request_in, request_of, told}
+use Rattle.requests.specs.Requests.{tagged, request_in, request_of}
 use Rattle.requests.specs.Private.Fields.{Answers}
-use Rattle.requests.specs.declared.request.Reading.{Reading}
-
-clash : ◌≡◌ {A = ℕ} 0 1 → ⊥
-clash e = omega arith
+use Rattle.requests.specs.declared.request.Request.{Request}
 
 -- a value that is no Structure is no request
 other-root : (minor : ℕ) (v : Value) (end : ℕ) → ((tag p n : ℕ) → head_of v end ≡ H.Structure tag p n → ⊥) → refused 14 0 ≡ request_in complaints minor v
@@ -37,16 +37,16 @@ other-root minor (structure tag vs) end e = absurd (e tag (first vs end) (count 
 
 -- a Structure's fields lie where its head says
 structure-root : (s : List ℕ) (minor : ℕ) (v : Value) (end tag p n : ℕ) → PartsLie s most_open v end → H.Structure tag p n ≡ head_of v end
-    → (r : Reading) → Answers s p n (tagged complaints minor tag) r → told r ≡ request_in complaints minor v
+    → (r : Result Request Fault) → Answers s p n (tagged complaints minor tag) r → told_at r ≡ request_in complaints minor v
 unfolding head_of
-structure-root s minor null end tag p n lie e r a = let z : ◌≡◌ {A = ℕ} 0 1 = cc e in absurd (clash z)
-structure-root s minor (boolean b) end tag p n lie e r a = let z : ◌≡◌ {A = ℕ} 0 1 = cc e in absurd (clash z)
-structure-root s minor (integer z) end tag p n lie e r a = let z : ◌≡◌ {A = ℕ} 0 1 = cc e in absurd (clash z)
-structure-root s minor (float bits) end tag p n lie e r a = let z : ◌≡◌ {A = ℕ} 0 1 = cc e in absurd (clash z)
-structure-root s minor (bytes start content) end tag p n lie e r a = let z : ◌≡◌ {A = ℕ} 0 1 = cc e in absurd (clash z)
-structure-root s minor (string start content) end tag p n lie e r a = let z : ◌≡◌ {A = ℕ} 0 1 = cc e in absurd (clash z)
-structure-root s minor (list vs) end tag p n lie e r a = let z : ◌≡◌ {A = ℕ} 0 1 = cc e in absurd (clash z)
-structure-root s minor (dictionary es) end tag p n lie e r a = let z : ◌≡◌ {A = ℕ} 0 1 = cc e in absurd (clash z)
+structure-root s minor null end tag p n lie e r a = absurd (cc e)
+structure-root s minor (boolean b) end tag p n lie e r a = absurd (cc e)
+structure-root s minor (integer z) end tag p n lie e r a = absurd (cc e)
+structure-root s minor (float bits) end tag p n lie e r a = absurd (cc e)
+structure-root s minor (bytes start content) end tag p n lie e r a = absurd (cc e)
+structure-root s minor (string start content) end tag p n lie e r a = absurd (cc e)
+structure-root s minor (list vs) end tag p n lie e r a = absurd (cc e)
+structure-root s minor (dictionary es) end tag p n lie e r a = absurd (cc e)
 structure-root s minor (structure t vs) end tag p n lie e r a =
     let f : tag ≡ t = cc e in
     let g : p ≡ first vs end = cc e in
@@ -66,7 +66,7 @@ module _ (s : List ℕ) (h : Head) (end : ℕ) (t : returned (record { head = h;
   pub no-structure : ((tag p n : ℕ) → h ≡ H.Structure tag p n → ⊥) → refused 14 0 ≡ request_of minor (decode s)
   no-structure k = other-root minor value.0 (length s) (λ tag p n e. k tag p n (value.2 ∙ e)) ∙ is-request
 
-  pub structure-there : (tag p n : ℕ) → H.Structure tag p n ≡ h → (r : Reading) → Answers s p n (tagged complaints minor tag) r → told r ≡ request_of minor (decode s)
+  pub structure-there : (tag p n : ℕ) → H.Structure tag p n ≡ h → (r : Result Request Fault) → Answers s p n (tagged complaints minor tag) r → told_at r ≡ request_of minor (decode s)
   structure-there tag p n e r a =
       let reads = (decode-reads s value.0 value.1).1 in
       structure-root s minor value.0 (length s) tag p n (placement s most_open 0 (omega arith) value.0 (length s) reads).parts (e ∙ value.2) r a ∙ is-request

@@ -15,15 +15,11 @@ use Rattle.entries.specs.Numbering.{name_of}
 use Rattle.entries.specs.Lookup.{Held, absent, held, Lookup}
 use Rattle.entries.specs.View.{wrong_in, seen}
 use Rattle.requests.specs.Checks.{Complaints, out_of_range, non_negative, string_at, integer_at, mode_at, required, strings_in, optional}
-use Rattle.requests.specs.Requests.{text, list_of_strings, hello, transaction, batch}
+use Rattle.requests.specs.Requests.{text, list_of_strings, hello, transaction, batch, begin, discard, pull}
 use Rattle.requests.specs.Requests as Meaning
-use Rattle.requests.specs.Private.Views.{Views, string_seen, dictionary_seen, unless_item, list_of_strings_seen, unless_none, mode_seen, integer_seen, hello_seen, transaction_seen, batch_seen, asks_seen, asks}
-use Rattle.entries.specs.declared.view.Text.TheVariants as T
-use Rattle.entries.specs.declared.view.Place.TheVariants as P
+use Rattle.requests.specs.Private.Views.{Views, string_seen, dictionary_seen, unless_item, list_of_strings_seen, unless_none, mode_seen, integer_seen, hello_seen, transaction_seen, batch_seen, begin_seen, discard_seen, pull_seen}
+use Rattle.std.specs.Prelude.{Some, None}
 use Rattle.entries.specs.declared.view.Mode.TheVariants as M
-use Rattle.requests.specs.declared.request.Number.TheVariants as N
-use Rattle.requests.specs.declared.extra.Kind.{Kind}
-use Rattle.requests.specs.declared.extra.Kind.TheVariants as K
 
 -- ---- an entry that may be absent, and what follows it: at Null and where there is none, and by what its check finds
 module _ {A B D : Type 0} (check : ℕ → Value → Answer A) (n : B) (some : A → B) (f : B → Answer D) where
@@ -67,16 +63,16 @@ module _ (c : Complaints) where
       refl (λ _. refl) (λ _. refl) (λ _. refl) (λ _ _. refl) (λ _ _. refl) (λ _. refl) (λ _. refl) (λ _ _. refl) v
 
   -- a name that is not known yet
-  since-seen : (b : Bool) (h : Held) → dictionary_seen c (cond b (seen h) (seen absent)) ≡ Meaning.dictionary c (cond b h absent)
+  since-seen : (b : Bool) (h : Held) → dictionary_seen c (cond b (seen h) None) ≡ Meaning.dictionary c (cond b h absent)
   since-seen true h = dictionary-seen h
   since-seen false h = refl
 
   -- the first item that is no String
-  strings-seen : (place : ℕ) (vs : Items) → unless_item c place (wrong_in vs) ≡ and_then (strings_in c place vs) (λ at. returned (P.At at))
+  strings-seen : (place : ℕ) (vs : Items) → unless_item c place (wrong_in vs) ≡ and_then (strings_in c place vs) (λ at. returned (Some at))
   unfolding wrong_in strings_in
   strings-seen place no_items = refl
   strings-seen place (item at v vs) =
-      of-each (λ w. unless_item c place (wrong_in (item at w vs)) ≡ and_then (strings_in c place (item at w vs)) (λ p. returned (P.At p)))
+      of-each (λ w. unless_item c place (wrong_in (item at w vs)) ≡ and_then (strings_in c place (item at w vs)) (λ p. returned (Some p)))
       refl (λ _. refl) (λ _. refl) (λ _. refl) (λ _ _. refl) (λ _ _. strings-seen place vs) (λ _. refl) (λ _. refl) (λ _ _. refl) v
 
   list-seen : (h : Held) → list_of_strings_seen c (seen h) ≡ list_of_strings c h
@@ -87,31 +83,31 @@ module _ (c : Complaints) where
 
   -- a word that names a mode, or none
   word-seen : (place : ℕ) (r w : Bool)
-      → unless_none c place (cond r M.Read (cond w M.Write M.Absent)) ≡ and_then (cond r (returned M.Read) (cond w (returned M.Write) (out_of_range c place))) (λ mode. returned mode)
+      → unless_none c place (cond r (Some M.Read) (cond w (Some M.Write) None)) ≡ and_then (cond r (returned M.Read) (cond w (returned M.Write) (out_of_range c place))) (λ mode. returned (Some mode))
   word-seen place true w = refl
   word-seen place false true = refl
   word-seen place false false = refl
 
-  mode-seen : (h : Held) → mode_seen c (seen h) ≡ optional (mode_at c) M.Absent (λ mode. mode) h
+  mode-seen : (h : Held) → mode_seen c (seen h) ≡ optional (mode_at c) None Some h
   mode-seen absent = refl
   mode-seen (held place v) =
-      of-each (λ w. mode_seen c (seen (held place w)) ≡ optional (mode_at c) M.Absent (λ mode. mode) (held place w))
+      of-each (λ w. mode_seen c (seen (held place w)) ≡ optional (mode_at c) None Some (held place w))
       refl (λ _. refl) (λ _. refl) (λ _. refl) (λ _ _. refl) (λ start content. word-seen place (same content Name.read) (same content Name.write)) (λ _. refl) (λ _. refl) (λ _ _. refl) v
 
   -- a number in its range, or out of it
-  number-seen : (place : ℕ) (z : ℤ) (b : Bool) → cond b (returned (N.Is z)) (out_of_range c place) ≡ and_then (cond b (returned z) (out_of_range c place)) (λ x. returned (N.Is x))
+  number-seen : (place : ℕ) (z : ℤ) (b : Bool) → cond b (returned (Some z)) (out_of_range c place) ≡ and_then (cond b (returned z) (out_of_range c place)) (λ x. returned (Some x))
   number-seen place z true = refl
   number-seen place z false = refl
 
-  integer-seen : (range : ℤ → Bool) (h : Held) → integer_seen c range (seen h) ≡ optional (integer_at c range) N.Absent N.Is h
+  integer-seen : (range : ℤ → Bool) (h : Held) → integer_seen c range (seen h) ≡ optional (integer_at c range) None Some h
   integer-seen range absent = refl
   integer-seen range (held place v) =
-      of-each (λ w. integer_seen c range (seen (held place w)) ≡ optional (integer_at c range) N.Absent N.Is (held place w))
+      of-each (λ w. integer_seen c range (seen (held place w)) ≡ optional (integer_at c range) None Some (held place w))
       refl (λ _. refl) (λ z. number-seen place z (range z)) (λ _. refl) (λ _ _. refl) (λ _ _. refl) (λ _. refl) (λ _. refl) (λ _ _. refl) v
 
   -- ---- the extras, where the views are those of the values under the known names
   module _ (e : Views) (e' : Lookup) (a : (k : ℕ) → k < 12 → e (name_of k) ≡ seen (e' (name_of k))) where
-    hello-seen : (minor at : ℕ) → hello_seen c minor at e ≡ hello c minor at e'
+    pub hello-seen : (minor at : ℕ) → hello_seen c minor at e ≡ hello c minor at e'
     unfolding hello_seen hello
     hello-seen minor at =
         rw (
@@ -126,7 +122,7 @@ module _ (c : Complaints) where
           string-seen (e' Name.credentials),
           since-seen (leb 1 minor) (e' Name.routing),
         )
-        (required-alike (string_at c) T.Absent T.At _ c at _ refl (λ agent. refl) (e' Name.user-agent))
+        (required-alike (string_at c) None Some _ c at _ refl (λ agent. refl) (e' Name.user-agent))
 
     pub transaction-seen : transaction_seen c e ≡ transaction c e'
     unfolding transaction_seen transaction
@@ -144,16 +140,19 @@ module _ (c : Complaints) where
           string-seen (e' Name.db),
         )
 
-    batch-seen : (at : ℕ) → batch_seen c at e ≡ batch c at e'
+    pub batch-seen : (at : ℕ) → batch_seen c at e ≡ batch c at e'
     unfolding batch_seen batch
     batch-seen at =
         rw (a 10 (omega arith), a 11 (omega arith), integer-seen (minus_one_or 1) (e' Name.n), integer-seen (minus_one_or 0) (e' Name.qid))
-        (required-alike (integer_at c (minus_one_or 1)) N.Absent N.Is _ c at _ refl
-        (λ n. optional-alike (integer_at c (minus_one_or 0)) N.Absent N.Is _ (negsuc 0) (λ qid. qid) (λ qid. returned (record { n = n; qid = qid })) refl (λ qid. refl) (e' Name.qid))
+        (required-alike (integer_at c (minus_one_or 1)) None Some _ c at _ refl
+        (λ n. optional-alike (integer_at c (minus_one_or 0)) None Some _ (negsuc 0) (λ qid. qid) (λ qid. returned (record { n = n; qid = qid })) refl (λ qid. refl) (e' Name.qid))
         (e' Name.n))
 
-    pub asks-seen : (k : Kind) (minor at : ℕ) → asks_seen c k minor at e ≡ asks c k minor at e'
-    asks-seen K.Hello minor at = hello-seen minor at
-    asks-seen K.Begin minor at = rw transaction-seen
-    asks-seen K.Discard minor at = rw (batch-seen at)
-    asks-seen K.Pull minor at = rw (batch-seen at)
+    pub begin-seen : (at : ℕ) → begin_seen c at e ≡ begin c at e'
+    begin-seen at = rw transaction-seen
+
+    pub discard-seen : (at : ℕ) → discard_seen c at e ≡ discard c at e'
+    discard-seen at = rw (batch-seen at)
+
+    pub pull-seen : (at : ℕ) → pull_seen c at e ≡ pull c at e'
+    pull-seen at = rw (batch-seen at)

@@ -10,10 +10,9 @@ use Rattle.entries.specs.View.{seen}
 use Rattle.bolt.specs.Requests.{tag, HELLO, GOODBYE, RESET, RUN, BEGIN, COMMIT, ROLLBACK, DISCARD, PULL}
 use Rattle.requests.specs.Checks.{Complaints}
 use Rattle.requests.specs.Requests.{none, one, three}
-use Rattle.requests.specs.Private.Views.{Views, string_seen, required_text, transaction_seen, asks_seen}
+use Rattle.requests.specs.Private.Views.{Views, string_seen, required_seen, hello_seen, transaction_seen, begin_seen, discard_seen, pull_seen}
 use Rattle.requests.specs.declared.request.Request.{Request}
 use Rattle.requests.specs.declared.request.Request.TheVariants as R
-use Rattle.requests.specs.declared.extra.Kind.TheVariants as K
 
 -- 16 for all three
 abbrev pub sixteen : Complaints
@@ -47,7 +46,7 @@ extra f at v = entries_of at v (λ es. f at (under es))
 -- "query String, parameters Dictionary, extra"
 unfoldable pub run : ℕ → Value → ℕ → Value → ℕ → Value → Answer Request
 run q query p parameters x extra =
-    and_then (string_seen sixteen (seen (held q query))) (λ query. and_then (required_text sixteen q query) (λ query.
+    and_then (string_seen sixteen (seen (held q query))) (λ query. and_then (required_seen sixteen q query) (λ query.
     entries_of p parameters (λ _.
     entries_of x extra (λ es.
     and_then (transaction_seen sixteen (under es)) (λ t.
@@ -57,15 +56,15 @@ run q query p parameters x extra =
 -- by the tag; any other is 14
 unfoldable pub tagged : ℕ → ℕ → Items → Answer Request
 tagged minor given fields =
-    cond (eqb given (tag HELLO)) (one (extra (asks_seen sixteen K.Hello minor)) fields)
+    cond (eqb given (tag HELLO)) (one (extra (hello_seen sixteen minor)) fields)
     (cond (eqb given (tag GOODBYE)) (none (returned R.Goodbye) fields)
     (cond (eqb given (tag RESET)) (none (returned R.Reset) fields)
     (cond (eqb given (tag RUN)) (three run fields)
-    (cond (eqb given (tag BEGIN)) (one (extra (asks_seen sixteen K.Begin minor)) fields)
+    (cond (eqb given (tag BEGIN)) (one (extra (begin_seen sixteen)) fields)
     (cond (eqb given (tag COMMIT)) (none (returned R.Commit) fields)
     (cond (eqb given (tag ROLLBACK)) (none (returned R.Rollback) fields)
-    (cond (eqb given (tag DISCARD)) (one (extra (asks_seen sixteen K.Discard minor)) fields)
-    (cond (eqb given (tag PULL)) (one (extra (asks_seen sixteen K.Pull minor)) fields)
+    (cond (eqb given (tag DISCARD)) (one (extra (discard_seen sixteen)) fields)
+    (cond (eqb given (tag PULL)) (one (extra (pull_seen sixteen)) fields)
     (refused 14 0)))))))))
 
 -- "14: not a known request structure"

@@ -1,5 +1,5 @@
 -- Requests at the edges, in one table under one statement; those that document 01 stars stand with the other starred ones, in session. Assumes nothing.
-use Rattle.std.specs.Prelude.{◌≡◌, refl, List, [], ◌∷◌, map, ℕ, pos, negsuc}
+use Rattle.std.specs.Prelude.{◌≡◌, refl, List, [], ◌∷◌, map, ℕ, pos, negsuc, Some, None}
 use Rattle.std.specs.Int.Count.{count_leading_zeros}
 use Rattle.numbers.specs.BigEndian.{big_endian}
 use Rattle.numbers.specs.TwosComplement.{twos}
@@ -9,14 +9,10 @@ use Rattle.refusal.specs.Answer.{Answer, returned, refused}
 use Rattle.markers.specs.Marker.{marker_of, lookup}
 use Rattle.values.specs.Decode.{decode, message_of, value_in, value_at, items, entries, key_at, leaf_at, leaf_value, repeats}
 use Rattle.slices.specs.Equality.{same}
-use Rattle.markers.specs.Extents.{key_extent_at, extent_at, leaf_extent, container_extent}
+use Rattle.markers.specs.Extents.{span, key_extent_at, extent_at, leaf_span, container_extent}
 use Rattle.entries.specs.Lookup.{under}
-use Rattle.entries.specs.View.{span}
 use Rattle.requests.specs.Checks.{strings_in}
 use Rattle.requests.specs.Requests.{request_of, hello, transaction, batch, run, tagged}
-use Rattle.entries.specs.declared.view.Text.TheVariants as T
-use Rattle.entries.specs.declared.view.Place.TheVariants as P
-use Rattle.requests.specs.declared.request.Number.TheVariants as N
 use Rattle.entries.specs.declared.view.Mode.TheVariants as M
 use Rattle.requests.specs.declared.request.Request.{Request}
 use Rattle.requests.specs.declared.request.Request.TheVariants as R
@@ -62,22 +58,22 @@ cases =
     ∷ is 0 (0xB3 ∷ 0x10 ∷ 0x81 ∷ 0x52 ∷ 0xA0 ∷ 0x01 ∷ []) (refused 26 5)
     -- HELLO: user_agent is required, and routing known from 4.1
     ∷ is 1 (0xB1 ∷ 0x01 ∷ 0xA1 ∷ 0x8A ∷ 0x75 ∷ 0x73 ∷ 0x65 ∷ 0x72 ∷ 0x5F ∷ 0x61 ∷ 0x67 ∷ 0x65 ∷ 0x6E ∷ 0x74 ∷ 0x83 ∷ 0x50 ∷ 0x2F ∷ 0x31 ∷ [])
-    (returned (R.Hello (span 15 3) T.Absent T.Absent T.Absent P.Absent))
+    (returned (R.Hello (span 15 3) None None None None))
     ∷ is 0 (0xB1 ∷ 0x01 ∷ 0xA2 ∷ 0x87 ∷ 0x72 ∷ 0x6F ∷ 0x75 ∷ 0x74 ∷ 0x69 ∷ 0x6E ∷ 0x67 ∷ 0x01 ∷ 0x8A ∷ 0x75 ∷ 0x73 ∷ 0x65 ∷ 0x72 ∷ 0x5F ∷ 0x61 ∷ 0x67 ∷ 0x65 ∷ 0x6E ∷ 0x74 ∷ 0x83 ∷ 0x50 ∷ 0x2F ∷ 0x31 ∷ [])
-    (returned (R.Hello (span 24 3) T.Absent T.Absent T.Absent P.Absent))
+    (returned (R.Hello (span 24 3) None None None None))
     ∷ is 1 (0xB1 ∷ 0x01 ∷ 0xA2 ∷ 0x87 ∷ 0x72 ∷ 0x6F ∷ 0x75 ∷ 0x74 ∷ 0x69 ∷ 0x6E ∷ 0x67 ∷ 0x01 ∷ 0x8A ∷ 0x75 ∷ 0x73 ∷ 0x65 ∷ 0x72 ∷ 0x5F ∷ 0x61 ∷ 0x67 ∷ 0x65 ∷ 0x6E ∷ 0x74 ∷ 0x83 ∷ 0x50 ∷ 0x2F ∷ 0x31 ∷ [])
     (refused 26 11)
     ∷ is 1 (0xB1 ∷ 0x01 ∷ 0xA2 ∷ 0x87 ∷ 0x72 ∷ 0x6F ∷ 0x75 ∷ 0x74 ∷ 0x69 ∷ 0x6E ∷ 0x67 ∷ 0xA0 ∷ 0x8A ∷ 0x75 ∷ 0x73 ∷ 0x65 ∷ 0x72 ∷ 0x5F ∷ 0x61 ∷ 0x67 ∷ 0x65 ∷ 0x6E ∷ 0x74 ∷ 0x83 ∷ 0x50 ∷ 0x2F ∷ 0x31 ∷ [])
-    (returned (R.Hello (span 24 3) T.Absent T.Absent T.Absent (P.At 11)))
+    (returned (R.Hello (span 24 3) None None None (Some 11)))
     ∷ is 1 (0xB1 ∷ 0x01 ∷ 0xA1 ∷ 0x86 ∷ 0x73 ∷ 0x63 ∷ 0x68 ∷ 0x65 ∷ 0x6D ∷ 0x65 ∷ 0x01 ∷ []) (refused 25 2)
     -- RUN and BEGIN
     ∷ is 0 (0xB3 ∷ 0x10 ∷ 0x81 ∷ 0x52 ∷ 0xA0 ∷ 0xA0 ∷ [])
-    (returned (R.Run (span 3 1) 4 (record { bookmarks = P.Absent; tx_timeout = N.Absent; tx_metadata = P.Absent; mode = M.Absent; db = T.Absent })))
+    (returned (R.Run (span 3 1) 4 (record { bookmarks = None; tx_timeout = None; tx_metadata = None; mode = None; db = None })))
     ∷ is 0 (0xB1 ∷ 0x11 ∷ 0xA3 ∷ 0x84 ∷ 0x6D ∷ 0x6F ∷ 0x64 ∷ 0x65 ∷ 0x81 ∷ 0x77 ∷ 0x82 ∷ 0x64 ∷ 0x62 ∷ 0x81 ∷ 0x64 ∷ 0x89 ∷ 0x62 ∷ 0x6F ∷ 0x6F ∷ 0x6B ∷ 0x6D ∷ 0x61 ∷ 0x72 ∷ 0x6B ∷ 0x73 ∷ 0x92 ∷ 0x81 ∷ 0x78 ∷ 0x81 ∷ 0x79 ∷ [])
-    (returned (R.Begin (record { bookmarks = P.At 25; tx_timeout = N.Absent; tx_metadata = P.Absent; mode = M.Write; db = T.At (span 14 1) })))
+    (returned (R.Begin (record { bookmarks = Some 25; tx_timeout = None; tx_metadata = None; mode = Some M.Write; db = Some (span 14 1) })))
     -- a mode is told by its content and not its form
     ∷ is 0 (0xB1 ∷ 0x11 ∷ 0xA1 ∷ 0x84 ∷ 0x6D ∷ 0x6F ∷ 0x64 ∷ 0x65 ∷ 0xD0 ∷ 0x01 ∷ 0x72 ∷ [])
-    (returned (R.Begin (record { bookmarks = P.Absent; tx_timeout = N.Absent; tx_metadata = P.Absent; mode = M.Read; db = T.Absent })))
+    (returned (R.Begin (record { bookmarks = None; tx_timeout = None; tx_metadata = None; mode = Some M.Read; db = None })))
     ∷ is 0 (0xB1 ∷ 0x11 ∷ 0xA1 ∷ 0x84 ∷ 0x6D ∷ 0x6F ∷ 0x64 ∷ 0x65 ∷ 0x80 ∷ []) (refused 27 8)
     -- bookmarks are checked before mode; the place is the first wrong item's
     ∷ is 0 (0xB1 ∷ 0x11 ∷ 0xA2 ∷ 0x84 ∷ 0x6D ∷ 0x6F ∷ 0x64 ∷ 0x65 ∷ 0x81 ∷ 0x78 ∷ 0x89 ∷ 0x62 ∷ 0x6F ∷ 0x6F ∷ 0x6B ∷ 0x6D ∷ 0x61 ∷ 0x72 ∷ 0x6B ∷ 0x73 ∷ 0x92 ∷ 0x81 ∷ 0x78 ∷ 0xC0 ∷ [])
@@ -87,5 +83,5 @@ cases =
     ∷ []
 
 pub hold : map (λ c. request_of c.minor (decode c.message)) cases ≡ map (λ c. c.answer) cases
-unfolding message_of value_in value_at items entries key_at key_extent_at extent_at leaf_extent container_extent leaf_at leaf_value same repeats marker_of lookup unsigned_at big_endian twos utf8 sequences_from sequence completes count_leading_zeros strings_in under hello transaction batch run tagged
+unfolding message_of value_in value_at items entries key_at key_extent_at extent_at leaf_span container_extent leaf_at leaf_value same repeats marker_of lookup unsigned_at big_endian twos utf8 sequences_from sequence completes count_leading_zeros strings_in under hello transaction batch run tagged
 hold = refl

@@ -5,7 +5,7 @@ use Rattle.slices.specs.Equality.{same}
 use Rattle.markers.specs.Value.{Value, Items, no_items, item}
 use Rattle.entries.specs.Names as Name
 use Rattle.entries.specs.Lookup.{Held, absent, held}
-use Rattle.entries.specs.declared.view.Span.{Span}
+use Rattle.markers.specs.declared.extent.Span.{Span}
 use Rattle.entries.specs.declared.view.Mode.{Mode}
 use Rattle.entries.specs.declared.view.Mode.TheVariants as M
 use Rattle.markers.specs.ByKind.{on_null, on_integer, on_string, on_list, on_dictionary}

@@ -1,8 +1,7 @@
 -- The request that a message is, or the refusal: document 01, "Requests"; document 02, request 1. The numbers of the three complaints are a
 -- parameter: Renumbering.antt says what depends on them. Assumes nothing.
-use Rattle.std.specs.Prelude.{ℕ, cond, leb, eqb, negsuc}
+use Rattle.std.specs.Prelude.{ℕ, cond, leb, eqb, negsuc, Option, Some, None}
 use Rattle.refusal.specs.Answer.{Answer, returned, refused, and_then}
-use Rattle.refusal.specs.Numbers.{number_of}
 use Rattle.markers.specs.Value.{Value, Items, no_items, item}
 use Rattle.entries.specs.Names as Name
 use Rattle.entries.specs.Lookup.{Held, absent, under, Lookup}
@@ -10,19 +9,11 @@ use Rattle.bolt.specs.Ranges.{minus_one_or}
 use Rattle.bolt.specs.Requests.{tag, HELLO, GOODBYE, RESET, RUN, BEGIN, COMMIT, ROLLBACK, DISCARD, PULL}
 use Rattle.markers.specs.ByKind.{on_dictionary, on_structure}
 use Rattle.requests.specs.Checks.{Complaints, complaints, wrong_kind, string_at, integer_at, mode_at, dictionary_at, list_of_strings_at, required, optional, non_negative}
-use Rattle.entries.specs.declared.view.Text.{Text}
-use Rattle.entries.specs.declared.view.Text.TheVariants as T
-use Rattle.entries.specs.declared.view.Place.{Place}
-use Rattle.entries.specs.declared.view.Place.TheVariants as P
-use Rattle.entries.specs.declared.view.Mode.TheVariants as M
-use Rattle.requests.specs.declared.request.Number.TheVariants as N
+use Rattle.markers.specs.declared.extent.Span.{Span}
 use Rattle.requests.specs.declared.request.Transaction.{Transaction}
 use Rattle.requests.specs.declared.request.Batch.{Batch}
 use Rattle.requests.specs.declared.request.Request.{Request}
 use Rattle.requests.specs.declared.request.Request.TheVariants as R
-use Rattle.requests.specs.declared.request.Fault.{Fault}
-use Rattle.requests.specs.declared.request.Reading.{Reading}
-use Rattle.requests.specs.declared.request.Reading.TheVariants as Read
 
 -- "15: field count"
 abbrev pub none : Answer Request → Items → Answer Request
@@ -43,14 +34,14 @@ three f (item at v vs) = two (f at v) vs
 
 module _ (c : Complaints) where
   -- ---- entries that may be absent, by the kind of their value
-  abbrev pub text : Held → Answer Text
-  text = optional (string_at c) T.Absent T.At
+  abbrev pub text : Held → Answer (Option Span)
+  text = optional (string_at c) None Some
 
-  abbrev pub dictionary : Held → Answer Place
-  dictionary = optional (dictionary_at c) P.Absent P.At
+  abbrev pub dictionary : Held → Answer (Option ℕ)
+  dictionary = optional (dictionary_at c) None Some
 
-  abbrev pub list_of_strings : Held → Answer Place
-  list_of_strings = optional (list_of_strings_at c) P.Absent P.At
+  abbrev pub list_of_strings : Held → Answer (Option ℕ)
+  list_of_strings = optional (list_of_strings_at c) None Some
 
   -- ---- the extra of each request: what it asks of the entry under each name, in checking order; `at` is the Dictionary's marker
   -- "user_agent (required), scheme, principal, credentials, all String; routing Dictionary (from 4.1)"
@@ -67,9 +58,9 @@ module _ (c : Complaints) where
   unfoldable pub transaction : Lookup → Answer Transaction
   transaction e =
       and_then (list_of_strings (e Name.bookmarks)) (λ bookmarks.
-      and_then (optional (integer_at c non_negative) N.Absent N.Is (e Name.tx-timeout)) (λ timeout.
+      and_then (optional (integer_at c non_negative) None Some (e Name.tx-timeout)) (λ timeout.
       and_then (dictionary (e Name.tx-metadata)) (λ metadata.
-      and_then (optional (mode_at c) M.Absent (λ mode. mode) (e Name.mode)) (λ access.
+      and_then (optional (mode_at c) None Some (e Name.mode)) (λ access.
       and_then (text (e Name.db)) (λ db.
       returned (record { bookmarks = bookmarks; tx_timeout = timeout; tx_metadata = metadata; mode = access; db = db }))))))
 
@@ -127,11 +118,3 @@ module _ (c : Complaints) where
 -- what a message of Bolt 4.minor asks for
 abbrev pub request_of : ℕ → Answer Value → Answer Request
 request_of = request_under complaints
-
--- ---- the code's answer in the paper's terms
-abbrev pub refused_by : {A : Type 0} → Fault → Answer A
-refused_by f = refused (number_of f.refusal) f.place
-
-abbrev pub told : Reading → Answer Request
-told (Read.Request request) = returned request
-told (Read.Refused fault) = refused_by fault

@@ -98,9 +98,9 @@ pub record Feeding (p₀ : Progress) (C : Cut) (N : ℕ) (held₀ out₀ block :
   pub puts : Put (sent_for_lines p₀ C.ended) out₀ out written (sent_for_lines p (cut (length held) (take begun held) (first_lines left (drop taken block))).ended)
 
 module _ (p : Progress) (held out block : List ℕ) (begun : ℕ) (inside : begun ≤ length held) where
-  pub feeding-none
-      : Feeding p (cut (length held) (take begun held) (first_lines (length out / enough) block)) (length (first_lines (length out / enough) block)) held out block p begun 0 0 (length out / enough) held out
-  feeding-none = record {
+  pub feeding-none : (left : ℕ) → left ≡ length out / enough
+      → Feeding p (cut (length held) (take begun held) (first_lines (length out / enough) block)) (length (first_lines (length out / enough) block)) held out block p begun 0 0 left held out
+  feeding-none left e = rw e (record {
     inside = omega arith;
     begun-inside = inside;
     room = omega arith;
@@ -109,7 +109,7 @@ module _ (p : Progress) (held out block : List ℕ) (begun : ℕ) (inside : begu
     holds = refl;
     keeps = refl;
     puts = put-none (sent_for_lines p (cut (length held) (take begun held) (first_lines (length out / enough) block)).ended) out;
-  }
+  })
 
 -- a part that runs to the end is what is left
 pub part-rest : (n : ℕ) (l : List ℕ) → take (length l - n) (drop n l) ≡ drop n l

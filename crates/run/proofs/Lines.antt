@@ -2,26 +2,24 @@
 use mathlib.Core.Path.{◌≡◌, refl, sym, ap, ◌∙◌}
 use mathlib.Core.Bool.{Bool, true, false, false≢true, cond}
 use mathlib.Core.List.{List, [], ◌++◌, append-nil}
-use Prim.Native.Nat.{ℕ, ◌-◌, ◌≤◌}
+use Prim.Native.Nat.{ℕ, ◌≤◌}
 use native.Mathlib.Omega.{arith}
-use lib.IntN.{ℤ}
+use Rattle.std.specs.Prelude.{Result, Ok, Err}
+use Rattle.std.specs.Result.{is_ok}
 use lib.ListN.{length, take, drop, length-take, length-drop, length-append}
 use lib.Seq.{take-append_seam}
 use Rattle.slices.specs.Parts.{front}
-use Rattle.refusal.specs.Answer.{Answer, returned, refused, left}
+use Rattle.refusal.specs.Answer.{Answer, returned, refused, left, told, mapped}
+use Rattle.refusal.specs.declared.Refusal.{Refusal}
 use Rattle.lines.specs.Lines.{first_line, has_end, first_lines}
 use Rattle.lines.specs.Blocks.{Cut, cut, held_of}
 use Rattle.lines.proofs.Blocks.{first_cut, cut-first}
-use Rattle.session.specs.declared.phase.Session.{Session as Held}
-use Rattle.session.specs.Session.{Session, session_in, next_of, written, handling, Told, telling, going_on, putting}
+use Rattle.session.specs.declared.phase.Session.{Session}
+use Rattle.session.specs.declared.line.Handled.{Handled}
+use Rattle.session.specs.Session.{next_of, written, handling, Told, telling, told_handled, going_on, putting}
 use Rattle.session.specs.Room.{enough}
 use Rattle.session.proofs.Room.{room}
-use Rattle.session.proofs.Receiving.{from_start}
 use Rattle.run.specs.Run.{Progress, after_line, sent_for, after_lines, sent_for_lines, step_of, held_after, leaves}
-
--- a session that is renewed is the same
-pub as-renewed : {s t : Held} {streams kinds : List ℕ} {counts qids : List ℤ} {w : Session} → s ≡ t → session_in t streams kinds counts qids ≡ w → session_in s streams kinds counts qids ≡ w
-as-renewed {streams = streams} {kinds = kinds} {counts = counts} {qids = qids} e f = ap (λ (s : Held). session_in s streams kinds counts qids) e ∙ f
 
 -- ---- a line that is handled
 -- what a line gives, in the order in which `handle_line` ensures it
@@ -29,8 +27,7 @@ abbrev pub Handles : Progress → List ℕ → List ℕ → Progress → ℕ →
 Handles p line out p' n out' = (p' ≡ after_line p line) × ((n ≡ length (sent_for p line)) × (out' ≡ front (sent_for p line) out))
 
 -- a run that has ended takes none
-pub passed_over : (s : Session) (g : Bool) (line out : List ℕ) → g ≡ false
-    → Handles (record { session = s; goes_on = g }) line out (record { session = s; goes_on = false }) 0 out
+pub passed_over : (s : Session) (g : Bool) (line out : List ℕ) → g ≡ false → Handles (record { session = s; goes_on = g }) line out (record { session = s; goes_on = g }) 0 out
 passed_over s g line out e = rw e (refl, (refl, refl))
 
 -- what the handler tells, where it tells anything
@@ -47,18 +44,19 @@ module _ (s : Session) (g : Bool) (line out : List ℕ) (goes : g ≡ true) (siz
   fits : handling size s line ≡ returned (next_of s line)
   fits = (room s line).taken size h
 
-  pub handles : (t : Told) (s' : Session) (out' : List ℕ) → returned t ≡ telling (handling size s line) → s' ≡ left going_on (handling size s line) s
+  pub handles : (t : Told) (s' : Session) (g' : Bool) (out' : List ℕ) → g' ≡ t.goes_on → returned t ≡ telling (handling size s line) → s' ≡ left going_on (handling size s line) s
       → out' ≡ left putting (handling size s line) out
-      → Handles (record { session = s; goes_on = g }) line out (record { session = s'; goes_on = t.goes_on }) t.characters out'
-  handles t s' out' e f k =
+      → Handles (record { session = s; goes_on = g }) line out (record { session = s'; goes_on = g' }) t.characters out'
+  handles t s' g' out' q e f k =
       let e' : returned t ≡ telling (returned (next_of s line)) = e ∙ ap telling fits in
       rw goes (
-        (λ i. record { session = (f ∙ ap (λ a. left going_on a s) fits) i; goes_on = (told_of t (e' i)).goes_on }),
+        (λ i. record { session = (f ∙ ap (λ a. left going_on a s) fits) i; goes_on = (q ∙ ap (λ a. (told_of t a).goes_on) e') i }),
         (ap (λ a. (told_of t a).characters) e', k ∙ ap (λ a. left putting a out) fits),
       )
 
-  pub not-refused : (number : ℕ) → refused number 0 ≡ telling (handling size s line) → ⊥
-  not-refused number e = false≢true (ap is-told (e ∙ ap telling fits))
+  pub not-refused : (r : Result Handled Refusal) → mapped told_handled (told r) ≡ telling (handling size s line) → is_ok r ≡ true
+  not-refused (Ok x) e = refl
+  not-refused (Err why) e = absurd (false≢true (ap is-told (e ∙ ap telling fits)))
 
 -- there is always room
 pub line-short : (p : Progress) (line : List ℕ) → length (sent_for p line) ≤ enough
@@ -100,11 +98,11 @@ module _ (p : Progress) (held : List ℕ) (begun : ℕ) (block out : List ℕ) w
     line-inside = omega (arith, l, length-take (length held) (take begun held ++ first_line block), ap length e, length-append line (drop (length line) held), length-drop (length line) held)
 
     -- it is what was held
-    line-held : take (size - 0) held' ≡ line
-    line-held = from_start size held' ∙ (λ i. take (l i) (e i)) ∙ take-append_seam line _
+    line-held : take size held' ≡ line
+    line-held = (λ i. take (l i) (e i)) ∙ take-append_seam line _
 
     -- it ends
-    pub ends : {b : Bool} {p' : Progress} {n : ℕ} {out' : List ℕ} → b ≡ true → b ≡ has_end block → Handles p (take (size - 0) held') out p' n out'
+    pub ends : {b : Bool} {p' : Progress} {n : ℕ} {out' : List ℕ} → b ≡ true → b ≡ has_end block → Handles p (take size held') out p' n out'
         → Gives p c (length (first_lines 1 block)) held out p' 0 taken n held' out'
     unfolding after_lines sent_for_lines held_after
     ends d k w =

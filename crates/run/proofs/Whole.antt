@@ -18,7 +18,8 @@ use Rattle.session.specs.declared.phase.Phase.{Phase}
 use Rattle.session.specs.declared.phase.Phase.TheVariants.{Awaiting, Open}
 use Rattle.record.specs.declared.record.Connection.{Connection}
 use Rattle.session.specs.Receiving.{handshake_in, Brought, brought_in}
-use Rattle.session.specs.Session.{Session, Next, replying, answering, next_of, in_phase, written, run_of, fresh}
+use Rattle.session.specs.declared.phase.Session.{Session}
+use Rattle.session.specs.Session.{Next, replying, answering, next_of, in_phase, written, run_of, fresh}
 use Rattle.run.specs.Run.{Progress, start, after_line, sent_for, after_lines, sent_for_lines}
 use Rattle.run.specs.Whole.{blocks, Claim}
 use Rattle.run.proofs.Feeding.{sent-append}

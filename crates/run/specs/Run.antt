@@ -1,11 +1,11 @@
 -- A run of the bench trial that comes in blocks: document 01, "Bench trial program". Each block is cut into lines, and each line that ends in
 -- it is handled, until the run ends. Assumes nothing.
-use Rattle.std.specs.Prelude.{ℕ, ◌/◌, Bool, true, cond, List, [], ◌∷◌, ◌++◌, ℤ, length, take}
+use Rattle.std.specs.Prelude.{ℕ, ◌/◌, Bool, true, cond, List, [], ◌∷◌, ◌++◌, length, take}
 use Rattle.slices.specs.Parts.{front}
 use Rattle.lines.specs.Lines.{first_lines}
 use Rattle.lines.specs.Blocks.{Cut, cut, missing_end}
-use Rattle.session.specs.declared.phase.Session.{Session as Held}
-use Rattle.session.specs.Session.{Session, fresh, next_of, written, session_in}
+use Rattle.session.specs.declared.phase.Session.{Session}
+use Rattle.session.specs.Session.{fresh, next_of, written}
 use Rattle.session.specs.Room.{enough}
 use Rattle.run.specs.declared.Run.{Run}
 
@@ -50,19 +50,15 @@ abbrev pub block : ℕ → Progress → List ℕ → List ℕ → Step
 block most p begun s = step_of p (cut most begun s)
 
 -- ---- a block on what the code keeps
--- the record's arrays lie beside it
-abbrev pub progress_in : Held → Bool → List ℕ → List ℕ → List ℤ → List ℤ → Progress
-progress_in s goes_on streams kinds counts qids = record { session = session_in s streams kinds counts qids; goes_on = goes_on }
-
-abbrev pub progress_of : Run → List ℕ → List ℕ → List ℤ → List ℤ → Progress
-progress_of r = progress_in r.session r.goes_on
+abbrev pub progress_of : Run → Progress
+progress_of r = record { session = r.session; goes_on = r.goes_on }
 
 -- the line that has begun stands in front of the memory in which lines are held
 abbrev pub cut_in : List ℕ → Run → List ℕ → Cut
 cut_in held r s = cut (length held) (take r.begun held) s
 
-abbrev pub step_in : List ℕ → Run → List ℕ → List ℕ → List ℤ → List ℤ → List ℕ → Step
-step_in held r streams kinds counts qids s = step_of (progress_of r streams kinds counts qids) (cut_in held r s)
+abbrev pub step_in : List ℕ → Run → List ℕ → Step
+step_in held r s = step_of (progress_of r) (cut_in held r s)
 
 -- lines that are held one after the other, each in front: what they leave of the memory
 unfoldable pub held_after : List ℕ → List (List ℕ) → List ℕ

@@ -1,8 +1,9 @@
 -- Serving a request: document 01, "Bench trial program": "every report is plain success. After each frame it takes and reports until idle or
 -- closed". Assumes nothing.
-use Rattle.std.specs.Prelude.{ℕ, zero, suc, cond, List, [], ◌∷◌}
+use Rattle.std.specs.Prelude.{ℕ, zero, suc, cond, List, [], ◌∷◌, Result, Ok, Err}
 use Rattle.refusal.specs.Answer.{Answer, returned, refused, closes_after}
 use Rattle.refusal.specs.Numbers.{number_of}
+use Rattle.refusal.specs.declared.Refusal.{Refusal}
 use Rattle.record.specs.declared.record.Connection.{Connection}
 use Rattle.states.specs.declared.request.Request.{Request}
 use Rattle.states.specs.declared.answers.Outcome.TheVariants.{Success}
@@ -80,7 +81,7 @@ unfoldable pub served : Connection → Request → Serving
 served c r = followed (arrive_of c r) (serving turns (arrive_of c r).connection)
 
 -- ---- what the code answers, in these terms
-abbrev pub end_of : Ending → End
-end_of E.Idle = idle
-end_of E.Closed = closed
-end_of (E.Refused why) = refusal (number_of why)
+abbrev pub end_of : Result Ending Refusal → End
+end_of (Ok E.Idle) = idle
+end_of (Ok E.Closed) = closed
+end_of (Err why) = refusal (number_of why)

@@ -1,102 +1,63 @@
-// Serving: take and report, with plain success, by turns, and what a refusal leaves. The record's control goes in and out by value; its arrays
-// are lent where they lie.
+// Serving: take and report, with plain success, by turns, and what a refusal leaves. The record's control goes in and out by value; its streams
+// and its queue are lent where they lie.
 #![tactic(auto)]
 
 ghost use Rattle.std.specs.Prelude.{◌≡◌};
 ghost use Rattle.refusal.specs.Numbers.{number_of};
 ghost use Rattle.states.specs.declared.answers.Outcome.TheVariants.{Success};
+ghost use Rattle.states.specs.Answers.{told_taken};
 ghost use Rattle.record.specs.Record.{joined};
 ghost use Rattle.record.specs.Calls.{report_of};
-ghost use Rattle.steps.specs.Steps.{told_take};
+ghost use Rattle.steps.specs.Steps.{told_after};
 ghost use Rattle.serving.specs.Serving.{after_refusal, turn_of};
 
-use record::record::Control;
+use record::record::{Control, Queue};
 use refusal::Refusal;
-use states::answers::{Outcome, Reported, Taken};
-use steps::after::AfterTake;
+use states::answers::{Outcome, Taken};
+use steps::after::After;
 use steps::{close, report, take};
 
-// Why serving ended: nothing is left to do until the next request, the connection closed, or a call was refused.
-#[derive(Clone, Copy)]
+// Why serving ended, where no call was refused: nothing is left to do until the next request, or the connection closed.
+#[derive(Clone, Copy, Debug, PartialEq, Eq)]
 pub enum Ending {
     Idle,
     Closed,
-    Refused(Refusal),
 }
 
 // The control after a refusal, after which the caller closes or not.
-pub fn after_refusal(
-    control: Control,
-    streams: &[u64; 8],
-    kinds: &[u8; 32],
-    counts: &[i64; 32],
-    qids: &[i64; 32],
-    why: Refusal,
-) -> Control
-    ensures { joined result streams.now kinds.now counts.now qids.now ≡ after_refusal (number_of why) (joined control streams.now kinds.now counts.now qids.now) }
+#[tactic(auto, unfolding(crate::specs::Serving::after_refusal))]
+pub fn after_refusal(control: Control, streams: &[u64; 8], queue: &Queue, why: Refusal) -> Control
+    ensures { joined result streams.now queue.now ≡ after_refusal (number_of why) (joined control streams.now queue.now) }
 {
     if why.closes() {
-        let closed = close::step(control, streams, kinds, counts, qids);
-        let after = closed.control;
-        return after;
+        return close::step(control, streams, queue).control;
     }
     control
 }
 
 // The report of plain success on the request in flight, as the answer of the take that handed it over.
-fn succeed(
-    control: Control,
-    streams: &mut [u64; 8],
-    kinds: &[u8; 32],
-    counts: &[i64; 32],
-    qids: &[i64; 32],
-) -> AfterTake
-    ensures { told_take result streams.new kinds.now counts.now qids.now ≡ report_of (joined control streams.old kinds.now counts.now qids.now) Success }
+fn succeed(control: Control, streams: &mut [u64; 8], queue: &Queue) -> After<Result<Taken, Refusal>>
+    ensures { told_after told_taken result streams.new queue.now ≡ report_of (joined control streams.old queue.now) Success }
 {
-    let reported = report::step(control, streams, kinds, counts, qids, Outcome::Success);
-    let after = reported.control;
-    let answer = reported.answer;
-    match answer {
-        Reported::Answered { summary, number } => AfterTake {
-            control: after,
-            answer: Taken::Answered {
-                summary: summary,
-                number: number,
-            },
-        },
-        Reported::Refused(why) => AfterTake {
-            control: after,
-            answer: Taken::Refused(why),
-        },
+    let reported = report::step(control, streams, queue, Outcome::Success);
+    After {
+        control: reported.control,
+        answer: reported.answer.map(Taken::Answered),
     }
 }
 
 // Takes; what is handed to the engine succeeds at once.
+#[tactic(auto, unfolding(crate::specs::Serving::turn_of))]
 pub fn turn(
     control: Control,
     streams: &mut [u64; 8],
-    kinds: &[u8; 32],
-    counts: &[i64; 32],
-    qids: &[i64; 32],
-) -> AfterTake
-    ensures { told_take result streams.new kinds.now counts.now qids.now ≡ turn_of (joined control streams.old kinds.now counts.now qids.now) }
+    queue: &Queue,
+) -> After<Result<Taken, Refusal>>
+    ensures { told_after told_taken result streams.new queue.now ≡ turn_of (joined control streams.old queue.now) }
 {
-    let taken = take::step(control, streams, kinds, counts, qids);
-    let answer = taken.answer;
-    match answer {
-        Taken::Handed {
-            request: _,
-            number: _,
-        } => {
-            let after = taken.control;
-            succeed(after, streams, kinds, counts, qids)
-        }
-        Taken::Idle => taken,
-        Taken::Closed => taken,
-        Taken::Answered {
-            summary: _,
-            number: _,
-        } => taken,
-        Taken::Refused(_) => taken,
+    let taken = take::step(control, streams, queue);
+    match taken.answer {
+        Ok(Taken::Handed { .. }) => succeed(taken.control, streams, queue),
+        Ok(Taken::Idle) | Ok(Taken::Closed) | Ok(Taken::Answered(_)) | Err(_) => taken,
     }
 }

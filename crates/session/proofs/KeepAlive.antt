@@ -17,7 +17,8 @@ use Rattle.framing.specs.Reading.{frame_of}
 use Rattle.session.specs.declared.phase.Phase.{Phase}
 use Rattle.session.specs.declared.phase.Phase.TheVariants.{Open}
 use Rattle.session.specs.Receiving.{Brought, nothing, refusal, framed, brought_in}
-use Rattle.session.specs.Session.{Session, replying, answering, in_phase, next_of}
+use Rattle.session.specs.declared.phase.Session.{Session}
+use Rattle.session.specs.Session.{replying, answering, in_phase, next_of}
 use Rattle.session.specs.KeepAlive.{unmoved, empty, Claim}
 
 module _ (s : Session) (v : Version) (begun : s.phase ≡ Open v) where

@@ -3,40 +3,25 @@ use mathlib.Core.Path.{◌≡◌, refl, sym, ap, ◌∙◌}
 use mathlib.Core.Logic.{◌⊎◌, inl, inr}
 use mathlib.Core.Bool.{Bool, true, false, cond, and-eq-true_iff}
 use mathlib.Core.List.{List}
-use Prim.Native.Nat.{ℕ, ◌-◌, ◌/◌, ◌≤◌, ◌<◌}
+use Prim.Native.Nat.{ℕ, ◌/◌, ◌≤◌, ◌<◌}
 use native.Mathlib.Omega.{arith}
-use lib.Dec.{ltb, leb}
+use lib.Dec.{leb}
 use lib.ListN.{length, take, drop}
 use lib.Seq.{take_at}
-use borrow.Author.Tests.{lt-ltb, le-ltb, leb-true}
+use borrow.Author.Tests.{leb-true}
 use Rattle.slices.specs.Parts.{front}
+use Rattle.std.specs.Prelude.{Option, Some, None}
+use Rattle.states.specs.declared.request.Request.{Request}
 use Rattle.refusal.specs.Answer.{Answer, returned, refused, counted, left}
 use Rattle.hex_lines.specs.Hex.{is_line, to_bytes, decoding}
 use Rattle.hex_lines.proofs.Lines.{clash, no_line, read, line-long}
 use Rattle.handshake.specs.Version.{keeps_alive}
 use Rattle.handshake.specs.Negotiation.{negotiated}
-use Rattle.framing.specs.Feed.{Reading, message, keep-alive}
 use Rattle.bolt.specs.Limits.{most_bytes}
-use Rattle.framing.specs.Reading.{frame_of, message-of, keep-alive-of, telling, leaves}
-use Rattle.values.specs.Decode.{decode}
-use Rattle.requests.specs.Requests.{request_of}
-use Rattle.session.specs.Receiving.{alone, handshake_in, Brought, nothing, refusal, arriving, in_frame, framed, brought_in}
+use Rattle.framing.specs.Reading.{frame_of}
+use Rattle.session.specs.Receiving.{alone, handshake_in, Brought, nothing, request, refusal, framed, brought_in}
+use Rattle.session.specs.Private.Receiving.{bringing}
 use Rattle.framing.proofs.Rooms.{frame-alike}
-
--- a part from the start on, as slices are lent
-pub from_start : (n : ℕ) (l : List ℕ) → take (n - 0) l ≡ take n l
-from_start n l = let e : n - 0 ≡ n = omega arith in ap (λ (k : ℕ). take k l) e
-
--- ---- the handshake
-module _ (bytes : List ℕ) (minor : ℕ) (e : returned minor ≡ negotiated bytes) where
-  by_size : {b : Bool} → ltb 20 (length bytes) ≡ b → cond b (refused 23 0) (returned minor) ≡ alone (length bytes) (negotiated bytes)
-  by_size t = sym (ap (λ (b : Bool). cond b (refused 23 0) (returned minor)) t) ∙ ap (alone (length bytes)) e
-
-  pub more-follows : 20 < length bytes → refused 23 0 ≡ alone (length bytes) (negotiated bytes)
-  more-follows h = by_size (lt-ltb 20 (length bytes) h)
-
-  pub none-follows : length bytes ≤ 20 → returned minor ≡ alone (length bytes) (negotiated bytes)
-  none-follows h = by_size (le-ltb 20 (length bytes) h)
 
 -- ---- the bytes of a line
 line-short : (s : List ℕ) → is_line s ≡ true → length s ≤ 40000
@@ -62,14 +47,18 @@ module _ (s : List ℕ) (room : ℕ) (holds : is_line s ≡ true → length s / 
   is_none n e = by-line (λ l d. absurd (clash (let k : refused n 0 ≡ counted (returned (to_bytes s)) = e ∙ ap counted d in cc))) (λ l d. l)
 
   -- its bytes stand in front of the buffer
-  pub its-bytes : (d d' : List ℕ) (n : ℕ) → returned n ≡ counted (decoding room s) → d' ≡ left front (decoding room s) d → take (n - 0) d' ≡ to_bytes s
-  its-bytes d d' n e w = from_start n d' ∙ by-line held (λ l k. absurd (clash (let z : returned n ≡ counted (refused 23 0) = e ∙ ap counted k in cc)))
+  pub its-bytes : (d d' : List ℕ) (n : ℕ) → returned n ≡ counted (decoding room s) → d' ≡ left front (decoding room s) d → take n d' ≡ to_bytes s
+  its-bytes d d' n e w = by-line held (λ l k. absurd (clash (let z : returned n ≡ counted (refused 23 0) = e ∙ ap counted k in cc)))
     where
       held : is_line s ≡ true → decoding room s ≡ returned (to_bytes s) → take n d' ≡ to_bytes s
       held l k =
           let z : returned n ≡ counted (returned (to_bytes s)) = e ∙ ap counted k in
           let m : n ≡ length (to_bytes s) = cc in
           ap (take n) (w ∙ ap (λ (a : Answer (List ℕ)). left front a d) k) ∙ take_at (to_bytes s) (drop (length (to_bytes s)) d) n (sym m)
+
+  -- what is refused is no line
+  pub refused-23 : (n : ℕ) → refused n 0 ≡ counted (decoding room s) → n ≡ 23
+  refused-23 n e = let k : refused n 0 ≡ counted (refused 23 0) = e ∙ ap counted (no_line room s (is_none n e)) in cc
 
 -- what the handshake is, by whether the line is one
 pub handshake-line : (s bytes : List ℕ) → is_line s ≡ true → bytes ≡ to_bytes s → alone (length bytes) (negotiated bytes) ≡ handshake_in s
@@ -80,58 +69,6 @@ handshake-line s bytes l e =
 pub handshake-none : (s : List ℕ) → is_line s ≡ false → refused 23 0 ≡ handshake_in s
 unfolding handshake_in
 handshake-none s l = sym (ap (λ (b : Bool). cond b (alone (length (to_bytes s)) (negotiated (to_bytes s))) (refused 23 0)) l)
-
--- ---- the frame
-module _ (minor total : ℕ) where
-  -- a message
-  module _ (d d' : List ℕ) (f : Answer Reading) (size used : ℕ) (e : returned (message-of size used) ≡ telling f) (w : d' ≡ left leaves f d) where
-    pub message-more : used < total → refusal 23 ≡ framed minor total f
-    message-more h = by f e
-      where
-        by : (a : Answer Reading) → returned (message-of size used) ≡ telling a → refusal 23 ≡ framed minor total a
-        by (returned (message m n)) k = let z : used ≡ n = cc in sym (ap (λ (b : Bool). cond b (refusal 23) (in_frame minor (message m n))) (lt-ltb n total (omega arith)))
-        by (returned (keep-alive n)) k = absurd (clash (cc))
-        by (refused number place) k = absurd (clash (cc))
-
-    pub message-alone : (b : Brought) → b ≡ arriving (request_of minor (decode (take (size - 0) d'))) → total ≤ used → b ≡ framed minor total f
-    message-alone b g h = by f e w
-      where
-        by : (a : Answer Reading) → returned (message-of size used) ≡ telling a → d' ≡ left leaves a d → b ≡ framed minor total a
-        by (returned (message m n)) k v =
-            let z : used ≡ n = cc in
-            let l : size ≡ length m = cc in
-            let t : take (size - 0) d' ≡ m = from_start size d' ∙ ap (take size) v ∙ take_at m (drop (length m) d) size (sym l) in
-            g ∙ ap (λ (x : List ℕ). arriving (request_of minor (decode x))) t
-            ∙ sym (ap (λ (b : Bool). cond b (refusal 23) (in_frame minor (message m n))) (le-ltb n total (omega arith)))
-        by (returned (keep-alive n)) k v = absurd (clash (cc))
-        by (refused number place) k v = absurd (clash (cc))
-
-  -- a keep-alive
-  module _ (f : Answer Reading) (e : returned (keep-alive-of 2) ≡ telling f) where
-    pub keep-alive-more : 2 < total → refusal 23 ≡ framed minor total f
-    keep-alive-more h = by f e
-      where
-        by : (a : Answer Reading) → returned (keep-alive-of 2) ≡ telling a → refusal 23 ≡ framed minor total a
-        by (returned (message m n)) k = absurd (clash (cc))
-        by (returned (keep-alive n)) k = let z : 2 ≡ n = cc in sym (ap (λ (b : Bool). cond b (refusal 23) nothing) (lt-ltb n total (omega arith)))
-        by (refused number place) k = absurd (clash (cc))
-
-    pub keep-alive-alone : total ≤ 2 → nothing ≡ framed minor total f
-    keep-alive-alone h = by f e
-      where
-        by : (a : Answer Reading) → returned (keep-alive-of 2) ≡ telling a → nothing ≡ framed minor total a
-        by (returned (message m n)) k = absurd (clash (cc))
-        by (returned (keep-alive n)) k = let z : 2 ≡ n = cc in sym (ap (λ (b : Bool). cond b (refusal 23) nothing) (le-ltb n total (omega arith)))
-        by (refused number place) k = absurd (clash (cc))
-
-  -- a refusal
-  pub frame_refused : (f : Answer Reading) (number : ℕ) → refused number 0 ≡ telling f → refusal number ≡ framed minor total f
-  frame_refused f number e = by f e
-    where
-      by : (a : Answer Reading) → refused number 0 ≡ telling a → refusal number ≡ framed minor total a
-      by (returned (message m n)) k = absurd (clash (cc))
-      by (returned (keep-alive n)) k = absurd (clash (cc))
-      by (refused x place) k = let z : number ≡ x = cc in ap refusal z
 
 -- ---- what a line brings
 module _ (room minor : ℕ) (s : List ℕ) where
@@ -165,3 +102,8 @@ brought-alike room minor s b h e other = by (is_line s) e
         → b ≡ cond t (framed minor (length v) (frame_of (keeps_alive minor) most_bytes v)) (refusal 23)
     by true k = frames (frame-alike (keeps_alive minor) room most_bytes h v) k
     by false k = k
+
+-- what is brought is no refusal
+pub brought-ok : (o : Option Request) → bringing (returned o) ≡ refusal 21 → ⊥
+brought-ok None e = clash (let k : nothing ≡ refusal 21 = e in cc)
+brought-ok (Some r) e = clash (let k : request r ≡ refusal 21 = e in cc)

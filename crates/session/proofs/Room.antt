@@ -22,7 +22,8 @@ use Rattle.session.specs.Text.{line_text, text}
 use Rattle.serving.specs.Serving.{End, idle, Serving, turn_of, following, serving, turns, served}
 use Rattle.session.specs.Receiving as Brought
 use Rattle.session.specs.Receiving.{handshake_in, brought_in}
-use Rattle.session.specs.Session.{Session, summary_line, end_lines, replying, zeros, greeting, answering, in_phase, next_of, written, handling}
+use Rattle.session.specs.declared.phase.Session.{Session}
+use Rattle.session.specs.Session.{summary_line, end_lines, replying, zeros, greeting, answering, in_phase, next_of, written, handling}
 use Rattle.session.specs.Room.{enough, Claim}
 use Rattle.session.specs.Private.Replies.{sent}
 use Rattle.session.proofs.Writing.{text-append, length-one, length_none, summary-length}

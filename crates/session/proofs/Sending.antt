@@ -1,7 +1,7 @@
 -- Laws of serving while the summaries are written: what is left to send goes behind what stands there. Assumes nothing.
 use mathlib.Core.Path.{◌≡◌, refl, sym, ap, ◌∙◌, subst}
 use mathlib.Core.List.{List, ◌++◌}
-use Prim.Native.Nat.{ℕ, suc, ◌+◌, ◌-◌, ◌≤◌, ◌<◌}
+use Prim.Native.Nat.{ℕ, suc, ◌+◌, ◌≤◌}
 use native.Mathlib.Nat.{zero-add}
 use native.Mathlib.Omega.{arith}
 use lib.ListN.{length, length-append}
@@ -9,14 +9,16 @@ use lib.Seq.{sets, length-sets}
 use Rattle.slices.proofs.Parts.{sets-append}
 use Rattle.refusal.specs.Answer.{Answer}
 use Rattle.states.specs.declared.answers.Summary.{Summary}
+use Rattle.states.specs.declared.request.Request.{Request}
 use Rattle.states.specs.Table.{Said}
-use Rattle.record.specs.declared.record.Control.{Control}
+use Rattle.record.specs.Calls.{arrive_of}
 use Rattle.record.specs.declared.record.Connection.{Connection}
-use Rattle.record.specs.Calls.{After}
+use Rattle.std.specs.Prelude.{Result}
+use Rattle.refusal.specs.declared.Refusal.{Refusal}
 use Rattle.serving.specs.declared.Ending.{Ending}
-use Rattle.serving.specs.Serving.{Serving, stopped, sending, turn_of, following, serving, idle, end_of}
+use Rattle.serving.specs.Serving.{Serving, stopped, sending, turn_of, following, serving, turns, served, idle, end_of}
 use Rattle.serving.proofs.Turns.{stepped}
-use Rattle.session.specs.declared.serve.Served.{Served}
+use Rattle.session.specs.declared.reply.Reply.{Reply}
 use Rattle.session.specs.Text.{line_text, text}
 use Rattle.session.specs.Session.{summary_line}
 use Rattle.session.specs.Private.Replies.{sent, leaving, Sends}
@@ -32,12 +34,13 @@ pub record Writes (w₀ w : Serving) (d₀ d : List ℕ) (at : ℕ) : Type 0 whe
 pub writes-none : (w : Serving) (d : List ℕ) → Writes w w d d 0
 writes-none w d = record { connection = refl; end = refl; size = refl; holds = refl; ends = zero-add (length (sent w)) }
 
--- one turn more
-pub writes-turn : {w₀ : Serving} {d₀ d : List ℕ} {at : ℕ} (n : ℕ) (c : Connection) → Writes w₀ (serving n c) d₀ d at → 0 < n → (a : After) (x : Answer Said) → a ≡ turn_of c → a.answer ≡ x
-    → Writes w₀ (following x a.connection (serving (n - 1) a.connection)) d₀ d at
-writes-turn {w₀} {d₀} {d} {at} n c w more a x h e =
-    let k : n ≡ suc (n - 1) = omega arith in
-    subst (λ (v : Serving). Writes w₀ v d₀ d at) (ap (λ (m : ℕ). serving m c) k ∙ stepped (n - 1) c a x h e) w
+-- one turn more, by the record that it leaves and by its answer
+pub writes-turn : {w₀ : Serving} {d₀ d : List ℕ} {at : ℕ} (n m : ℕ) (c after : Connection) (x : Answer Said) → Writes w₀ (serving n c) d₀ d at → n ≡ suc m → after ≡ (turn_of c).connection → x ≡ (turn_of c).answer
+    → Writes w₀ (following x after (serving m after)) d₀ d at
+writes-turn {w₀} {d₀} {d} {at} n m c after x w e p q =
+    let t : serving n c ≡ following x after (serving m after) =
+    ap (λ (k : ℕ). serving k c) e ∙ stepped m c (turn_of c) x refl (sym q) ∙ ap (λ (k : Connection). following x k (serving m k)) (sym p) in
+    subst (λ (v : Serving). Writes w₀ v d₀ d at) t w
 
 -- no more turns
 pub writes-over : {w₀ : Serving} {d₀ d : List ℕ} {at : ℕ} (n : ℕ) (c : Connection) → n ≤ 0 → Writes w₀ (serving n c) d₀ d at → Writes w₀ (stopped idle c) d₀ d at
@@ -69,16 +72,15 @@ module _ {w₀ : Serving} {d₀ d : List ℕ} {at : ℕ} (s : Summary) (later : 
   }
 
 -- nothing is left to send
-pub writes-done : {w₀ : Serving} {d₀ d : List ℕ} {at : ℕ} (f : Control → Connection) (k : Control) (e : Ending) → Writes w₀ (stopped (end_of e) (leaving (end_of e) (f k))) d₀ d at
-    → (r : Served) → r ≡ record { control = k; ending = e; end = at } → Sends w₀ (f r.control) r d₀ d
+pub writes-done : {w₀ : Serving} {d₀ d : List ℕ} {at : ℕ} (c : Connection) (e : Result Ending Refusal) → Writes w₀ (stopped (end_of e) (leaving (end_of e) c)) d₀ d at → Sends w₀ c (record { ending = e; end = at }) d₀ d
 unfolding text
-writes-done f k e w r p = record {
-  connection = ap (λ (x : Served). leaving (end_of x.ending) (f x.control)) p ∙ w.connection;
-  ending = ap (λ (x : Served). end_of x.ending) p ∙ w.end;
-  ends = ap (λ (x : Served). x.end) p ∙ omega (arith, w.ends);
-  filled = w.holds;
-}
+writes-done c e w = record { connection = w.connection; ending = w.end; ends = omega (arith, w.ends); filled = w.holds }
+
+-- an arrival, and what follows it
+pub arrives : (c : Connection) (r : Request) (after : Connection) (x : Answer Said) → after ≡ (arrive_of c r).connection → x ≡ (arrive_of c r).answer → following x after (serving turns after) ≡ served c r
+unfolding served
+arrives c r after x p q = λ i. following (q i) (p i) (serving turns (p i))
 
 -- a serving by another name
-pub sends-as : {w v : Serving} → w ≡ v → {after : Connection} {r : Served} {d₀ d : List ℕ} → Sends w after r d₀ d → Sends v after r d₀ d
+pub sends-as : {w v : Serving} → w ≡ v → {after : Connection} {r : Reply} {d₀ d : List ℕ} → Sends w after r d₀ d → Sends v after r d₀ d
 sends-as e {after} {r} {d₀} {d} s = subst (λ (x : Serving). Sends x after r d₀ d) e s

@@ -14,7 +14,7 @@ use Rattle.bolt.specs.Limits.{most_bytes}
 use Rattle.framing.specs.Reading.{frame_of}
 use Rattle.markers.specs.Marker.{marker_of, lookup}
 use Rattle.values.specs.Decode.{message_of, value_in, value_at, items, entries, key_at, leaf_at, leaf_value, repeats}
-use Rattle.markers.specs.Extents.{key_extent_at, extent_at, leaf_extent, container_extent}
+use Rattle.markers.specs.Extents.{key_extent_at, extent_at, leaf_span, container_extent}
 use Rattle.markers.specs.Value.{count, count_entries}
 use Rattle.packing.specs.Packing.{pack, pack_items, pack_entries, pack_integer, size_header, narrowest, doublings}
 use Rattle.entries.specs.Lookup.{under}
@@ -49,7 +49,7 @@ sent =
     ∷ []
 
 pub one-run : run_of fresh (map to_digits come) ≡ text sent
-unfolding count_leading_zeros big_endian bytes_of twos unsigned_at utf8 sequences_from sequence completes is_digit value_of digit_of all_digits is_line to_bytes to_digits among agrees chosen negotiated feed frame_of marker_of lookup message_of value_in value_at items entries key_at key_extent_at extent_at leaf_extent container_extent leaf_at leaf_value same repeats count count_entries pack pack_items pack_entries pack_integer size_header narrowest doublings under hello transaction batch run tagged new_state ignores hands_over handed_somewhere names_open is_full turn_in success_streams success_summary waiting_rule numbers_rule works may_be_in_flight counts_rule state_rules rules bounded named keeps_rules line_text text after_refusal turn_of serving served handshake_in brought_in replying next_of run_of
+unfolding count_leading_zeros big_endian bytes_of twos unsigned_at utf8 sequences_from sequence completes is_digit value_of digit_of all_digits is_line to_bytes to_digits among agrees chosen negotiated feed frame_of marker_of lookup message_of value_in value_at items entries key_at key_extent_at extent_at leaf_span container_extent leaf_at leaf_value same repeats count count_entries pack pack_items pack_entries pack_integer size_header narrowest doublings under hello transaction batch run tagged new_state ignores hands_over handed_somewhere names_open is_full turn_in success_streams success_summary waiting_rule numbers_rule works may_be_in_flight counts_rule state_rules rules bounded named keeps_rules line_text text after_refusal turn_of serving served handshake_in brought_in replying next_of run_of
 one-run = refl
 
 -- "Checked in order: length and digits, handshake or frame, bytes after it (23), request": of two faults in a line the earlier one counts. One

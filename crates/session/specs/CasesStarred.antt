@@ -15,7 +15,7 @@ use Rattle.markers.specs.Value.{Value, integer, string, count, count_entries}
 use Rattle.markers.specs.Marker.{marker_of, lookup}
 use Rattle.values.specs.Decode.{decode, message_of, value_in, value_at, items, entries, key_at, leaf_at, leaf_value, repeats}
 use Rattle.slices.specs.Equality.{same}
-use Rattle.markers.specs.Extents.{key_extent_at, extent_at, leaf_extent, container_extent}
+use Rattle.markers.specs.Extents.{key_extent_at, extent_at, leaf_span, container_extent}
 use Rattle.packing.specs.Packing.{pack_integer, narrowest, doublings, size_header, pack, pack_items, pack_entries}
 use Rattle.packstream.specs.RoundTrip.{located, located_items, located_entries}
 use Rattle.states.specs.declared.answers.Summary.{Summary}
@@ -98,5 +98,5 @@ cases =
     ∷ []
 
 pub starred : map (λ c. meaning c.given) cases ≡ map (λ c. c.made) cases
-unfolding negotiated agrees frame_of feed message_of value_in value_at items entries key_at key_extent_at extent_at leaf_extent container_extent leaf_at leaf_value same repeats marker_of lookup unsigned_at big_endian twos utf8 sequences_from sequence completes count_leading_zeros pack_integer narrowest doublings fits_in bits_of bytes_of size_header pack pack_items pack_entries located located_items located_entries count count_entries under hello transaction batch run tagged
+unfolding negotiated agrees frame_of feed message_of value_in value_at items entries key_at key_extent_at extent_at leaf_span container_extent leaf_at leaf_value same repeats marker_of lookup unsigned_at big_endian twos utf8 sequences_from sequence completes count_leading_zeros pack_integer narrowest doublings fits_in bits_of bytes_of size_header pack pack_items pack_entries located located_items located_entries count count_entries under hello transaction batch run tagged
 starred = refl

@@ -10,7 +10,8 @@ use Rattle.bolt.specs.Limits.{most_bytes}
 use Rattle.framing.specs.Reading.{frame_of}
 use Rattle.session.specs.declared.phase.Phase.TheVariants.{Open}
 use Rattle.session.specs.Receiving.{nothing, brought_in}
-use Rattle.session.specs.Session.{Session, Next, next_of}
+use Rattle.session.specs.declared.phase.Session.{Session}
+use Rattle.session.specs.Session.{Next, next_of}
 
 -- nothing is written, and the run goes on with the same session
 abbrev pub unmoved : Session → Next

@@ -1,7 +1,8 @@
 -- How much room is enough for any line: with 4,400 characters it is never refused with 21. Proved in proofs/Room.antt. Assumes nothing.
 use Rattle.std.specs.Prelude.{List, ◌≡◌, ℕ, ◌≤◌, length}
 use Rattle.refusal.specs.Answer.{returned}
-use Rattle.session.specs.Session.{Session, next_of, written, handling}
+use Rattle.session.specs.declared.phase.Session.{Session}
+use Rattle.session.specs.Session.{next_of, written, handling}
 
 abbrev pub enough : ℕ
 enough = 4400

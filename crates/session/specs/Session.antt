@@ -1,29 +1,23 @@
 -- The bench trial's session, line by line: document 01, "Bench trial program". Assumes nothing.
-use Rattle.std.specs.Prelude.{ℕ, Bool, true, false, cond, List, [], ◌∷◌, ◌++◌, map, eqb, ltb, ℤ, length}
+use Rattle.std.specs.Prelude.{ℕ, Bool, true, false, cond, List, [], ◌∷◌, ◌++◌, map, eqb, ltb, length}
 use Rattle.slices.specs.Parts.{front}
 use Rattle.refusal.specs.Answer.{Answer, returned, refused}
-use Rattle.refusal.specs.Numbers.{number_of}
 use Rattle.handshake.specs.Version.{bytes_of}
 use Rattle.bolt.specs.Limits.{most_bytes}
 use Rattle.framing.specs.Chunking.{chunk_of, end as last_chunk}
 use Rattle.summaries.specs.Summaries.{pack_summary}
 use Rattle.record.specs.declared.record.Connection.{Connection}
 use Rattle.states.specs.declared.answers.Summary.{Summary}
-use Rattle.record.specs.Record.{joined, fresh as fresh_record}
+use Rattle.record.specs.Record.{fresh as fresh_record}
 use Rattle.session.specs.declared.phase.Phase.{Phase}
 use Rattle.session.specs.declared.phase.Phase.TheVariants.{Awaiting, Open}
-use Rattle.session.specs.declared.phase.Session.{Session as Held}
+use Rattle.session.specs.declared.phase.Session.{Session}
 use Rattle.session.specs.declared.line.Handled.{Handled}
 use Rattle.session.specs.declared.line.Handled.TheVariants as H
 use Rattle.session.specs.Text.{text}
 use Rattle.serving.specs.Serving.{End, idle, closed, refusal, Serving, stopped, refusing, served}
 use Rattle.session.specs.Receiving as Brought
 use Rattle.session.specs.Receiving.{handshake_in, brought_in}
-
--- how far it has come, and the record of its connection
-pub record Session : Type 0 where
-  pub phase : Phase
-  pub connection : Connection
 
 -- nothing has come yet
 abbrev pub fresh : Session
@@ -95,10 +89,6 @@ unfoldable pub handling : ℕ → Session → List ℕ → Answer Next
 handling room s line = cond (ltb room (length (written (next_of s line)))) (refused 21 0) (returned (next_of s line))
 
 -- ---- what the code answers, in these terms
--- what it holds of a session, and the record's arrays
-abbrev pub session_in : Held → List ℕ → List ℕ → List ℤ → List ℤ → Session
-session_in s streams kinds counts qids = record { phase = s.phase; connection = joined s.control streams kinds counts qids }
-
 pub record Told : Type 0 where
   pub goes_on : Bool
   pub characters : ℕ
@@ -107,10 +97,9 @@ abbrev pub telling : Answer Next → Answer Told
 telling (returned n) = returned (record { goes_on = n.goes_on; characters = length (written n) })
 telling (refused number place) = refused number place
 
-abbrev pub told : Handled → Answer Told
-told (H.GoesOn n) = returned (record { goes_on = true; characters = n })
-told (H.Ended n) = returned (record { goes_on = false; characters = n })
-told (H.Refused why) = refused (number_of why) 0
+abbrev pub told_handled : Handled → Told
+told_handled (H.GoesOn n) = record { goes_on = true; characters = n }
+told_handled (H.Ended n) = record { goes_on = false; characters = n }
 
 -- what it leaves of the session, and of what was lent
 abbrev pub going_on : Next → Session → Session

@@ -1,5 +1,5 @@
 // A session of the bench trial: lines of hexadecimal come in, the handshake first and then one frame a line, and what is sent goes out as
-// lines. Document 01, "Bench trial program".
+// lines. Document 01, "Bench trial program". A session, a line and what is written are lent apart: the session alone lasts from line to line.
 #![tactic(auto)]
 
 pub mod line; // line.rt: one more line

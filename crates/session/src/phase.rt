@@ -1,12 +1,11 @@
-// A session: how far it has come, and the control of its connection's record. The record's arrays are lent beside it.
+// A session: how far it has come, and the record of its connection.
 ghost use Rattle.std.specs.Prelude.{◌≡◌};
-ghost use Rattle.record.specs.Record.{fresh as fresh_record};
-ghost use Rattle.session.specs.declared.phase.Phase.TheVariants as P;
+ghost use Rattle.session.specs.Session.{fresh as fresh_session};
 
 use handshake::version::Version;
-use record::record::Control;
+use record::record::Connection;
 
-#[derive(Clone, Copy)]
+#[derive(Clone, Copy, Debug, PartialEq, Eq)]
 pub enum Phase {
     // The next line is the handshake.
     Awaiting,
@@ -17,29 +16,15 @@ pub enum Phase {
 #[derive(Clone, Copy)]
 pub struct Session {
     pub phase: Phase,
-    pub control: Control,
+    pub connection: Connection,
 }
 
-// A session to which nothing has come yet. Its record's arrays are all zeros.
+// A session to which nothing has come yet.
 pub fn fresh() -> Session
-    ensures { result ≡ record { phase = P.Awaiting; control = fresh_record.control } }
+    ensures { result ≡ fresh_session }
 {
-    let connection = record::record::fresh();
-    let control = connection.control;
     Session {
         phase: Phase::Awaiting,
-        control: control,
-    }
-}
-
-// The same session, with its control field by field.
-pub fn renewed(session: Session) -> Session
-    ensures { result ≡ session }
-{
-    let phase = session.phase;
-    let control = session.control;
-    Session {
-        phase: phase,
-        control: record::record::renewed(control),
+        connection: record::record::fresh(),
     }
 }

@@ -1,89 +1,70 @@
 // What one more line leads to, written as it comes, but for the refusal at its end.
 ghost use Rattle.std.specs.Prelude.{◌≡◌, ◌≤◌, length};
-ghost use Rattle.record.specs.Record.{joined};
 ghost use Rattle.session.specs.Room.{enough};
 ghost use Rattle.session.specs.Receiving.{handshake_in};
-ghost use Rattle.session.specs.Session.{session_in, next_of};
-ghost use Rattle.session.specs.Private.Replies.{Greets, Replies};
+ghost use Rattle.session.specs.Session.{greeting, next_of};
+ghost use Rattle.session.specs.Private.Replies.{Replies};
+ghost use Rattle.session.specs.declared.phase.Phase.TheVariants.{Awaiting};
 
 use super::phase::{Phase, Session};
-use super::receive::Received;
 use super::{receive, serve, write};
-use handshake::negotiation::Negotiation;
-use record::record::Control;
+use refusal::Refusal;
 use serving::Ending;
 
-// The session's phase and control as the line left them, why it ended, and where what was written ends. What a refusal leads to is still to
-// do.
-#[derive(Clone, Copy)]
+// Why a line's reply ended, and where what was written of it ends. What a refusal leads to is still to do.
+#[derive(Clone, Copy, Debug, PartialEq, Eq)]
 pub struct Reply {
-    pub phase: Phase,
-    pub control: Control,
-    pub ending: Ending,
+    pub ending: Result<Ending, Refusal>,
     pub end: usize,
 }
 
-// The refusal that is told by four zeros first: no version is in common.
-const NONE_IN_COMMON: u8 = 3;
-
-fn replied(phase: Phase, control: Control, ending: Ending, end: usize) -> Reply
-    ensures { result ≡ record { phase = phase; control = control; ending = ending; end = end } }
-{
-    Reply {
-        phase: phase,
-        control: control,
-        ending: ending,
-        end: end,
+impl Reply {
+    // Nothing is written.
+    pub fn silent(ending: Result<Ending, Refusal>) -> Reply
+        ensures { result ≡ record { ending = ending; end = 0 } }
+    {
+        Reply { ending, end: 0 }
     }
 }
 
 // The line of the handshake: the version agreed on is sent, or four zeros where there is none in common.
-fn greet(control: Control, line: &[u8], out: &mut [u8]) -> Reply
-    requires { enough ≤ length out.old }
-    ensures { Greets control (handshake_in line.now) result out.old out.new }
+fn greet(session: &mut Session, line: &[u8], out: &mut [u8]) -> Reply
+    requires room { enough ≤ length out.old }
+    requires awaiting { session.old.phase ≡ Awaiting }
+    ensures { Replies (greeting session.old.connection (handshake_in line.now)) result session.new out.old out.new }
 {
     match receive::receive_handshake(line) {
-        Negotiation::Agreed(version) => {
-            let end = write::put_line(&version.to_bytes(), out, 0);
-            replied(Phase::Open(version), control, Ending::Idle, end)
-        }
-        Negotiation::Refused(why) => {
-            if why.number() == NONE_IN_COMMON {
-                let zeros = [0u8; 4];
-                let end = write::put_line(&zeros, out, 0);
-                return replied(Phase::Awaiting, control, Ending::Refused(why), end);
+        Ok(version) => {
+            session.phase = Phase::Open(version);
+            Reply {
+                ending: Ok(Ending::Idle),
+                end: write::put_line(&version.to_bytes(), out, 0),
             }
-            replied(Phase::Awaiting, control, Ending::Refused(why), 0)
+        }
+        Err(why) => {
+            let mut end = 0;
+            if why == Refusal::NoCommonVersion {
+                end = write::put_line(&[0; 4], out, 0);
+            }
+            Reply {
+                ending: Err(why),
+                end,
+            }
         }
     }
 }
 
 // What one more line leads to: the handshake first, then one frame a line.
-pub fn reply_to(
-    session: Session,
-    streams: &mut [u64; 8],
-    kinds: &mut [u8; 32],
-    counts: &mut [i64; 32],
-    qids: &mut [i64; 32],
-    line: &[u8],
-    out: &mut [u8],
-) -> Reply
+pub fn reply_to(session: &mut Session, line: &[u8], out: &mut [u8]) -> Reply
     requires { enough ≤ length out.old }
-    ensures { Replies (next_of (session_in session streams.old kinds.old counts.old qids.old) line.now) result (joined result.control streams.new kinds.new counts.new qids.new) out.old out.new }
+    ensures { Replies (next_of session.old line.now) result session.new out.old out.new }
 {
-    let phase = session.phase;
-    let control = session.control;
-    let Phase::Open(version) = phase else {
-        return greet(control, line, out);
+    let Phase::Open(version) = session.phase else {
+        return greet(session, line, out);
     };
     match receive::receive(version, line) {
-        Received::KeepAlive => replied(phase, control, Ending::Idle, 0),
-        Received::Request(request) => {
-            let served = serve::request(control, streams, kinds, counts, qids, request, out);
-            let after = served.control;
-            let ending = served.ending;
-            replied(phase, after, ending, served.end)
-        }
-        Received::Refused(why) => replied(phase, control, Ending::Refused(why), 0),
+        Ok(Some(request)) => serve::request(&mut session.connection, request, out),
+        Ok(None) => Reply::silent(Ok(Ending::Idle)),
+        Err(why) => Reply::silent(Err(why)),
     }
 }

@@ -1,93 +1,82 @@
 // Serving a request: it arrives, and then turn follows turn until the connection is idle or closed. Each summary is written as it comes, so
 // that none is held.
 ghost use Rattle.std.specs.Prelude.{◌≡◌, ◌≤◌, length};
-ghost use Rattle.record.specs.Record.{joined};
-ghost use Rattle.serving.specs.Serving.{serving, turns, served};
+ghost use Rattle.states.specs.Answers.{told_taken};
+ghost use Rattle.serving.specs.Serving.{turn_of, serving, turns, served};
 ghost use Rattle.session.specs.Room.{enough};
 ghost use Rattle.session.specs.Private.Replies.{Sends};
 
+use super::reply::Reply;
 use super::write;
-use record::record::Control;
+use connection;
+use record::record::Connection;
+use refusal::Refusal;
 use serving;
 use serving::Ending;
 use states::answers::{Arrival, Taken};
 use states::request::Request;
-use steps::arrive;
 
-// The control as serving left it, why it ended, and where what was written ends. What a refusal leads to is still to do.
-#[derive(Clone, Copy)]
-pub struct Served {
-    pub control: Control,
-    pub ending: Ending,
-    pub end: usize,
-}
-
-// Nothing more is done, with so much written.
-fn ended(control: Control, ending: Ending, end: usize) -> Served
-    ensures { result ≡ record { control = control; ending = ending; end = end } }
+// One turn of the record where it lies.
+fn turn(connection: &mut Connection) -> Result<Taken, Refusal>
+    ensures { (connection.new ≡ (turn_of connection.old).connection) × (told_taken result ≡ (turn_of connection.old).answer) }
 {
-    Served {
-        control: control,
-        ending: ending,
-        end: end,
-    }
+    let after = serving::turn(
+        connection.control,
+        &mut connection.streams,
+        &connection.queue,
+    );
+    connection.control = after.control;
+    after.answer
 }
 
 // Turn after turn. No more than 32 requests wait, so that the turns never run out before the connection is idle or closed.
-fn serve(
-    control: Control,
-    streams: &mut [u64; 8],
-    kinds: &[u8; 32],
-    counts: &[i64; 32],
-    qids: &[i64; 32],
-    out: &mut [u8],
-) -> Served
+fn serve(connection: &mut Connection, out: &mut [u8]) -> Reply
     requires { enough ≤ length out.old }
-    ensures { Sends (serving turns (joined control streams.old kinds.now counts.now qids.now)) (joined result.control streams.new kinds.now counts.now qids.now) result out.old out.new }
+    ensures { Sends (serving turns connection.old) connection.new result out.old out.new }
 {
-    let mut turns = 33u64;
-    let mut at = 0;
-    let mut control = control;
-    while 0 < turns {
-        let after = serving::turn(control, streams, kinds, counts, qids);
-        control = after.control;
-        turns -= 1;
-        let answer = after.answer;
-        match answer {
-            Taken::Answered { summary, number: _ } => {
-                at = write::put_summary(summary, out, at);
+    let mut end = 0;
+    for _ in 0..33u64 {
+        let taken = match turn(connection) {
+            Ok(taken) => taken,
+            Err(why) => {
+                return Reply {
+                    ending: Err(why),
+                    end,
+                };
             }
-            Taken::Idle => return ended(control, Ending::Idle, at),
-            Taken::Handed {
-                request: _,
-                number: _,
-            } => return ended(control, Ending::Idle, at),
-            Taken::Closed => return ended(control, Ending::Closed, at),
-            Taken::Refused(why) => return ended(control, Ending::Refused(why), at),
+        };
+        match taken {
+            Taken::Answered(answered) => {
+                end = write::put_summary(answered.summary, out, end);
+            }
+            Taken::Idle | Taken::Handed { .. } => {
+                return Reply {
+                    ending: Ok(Ending::Idle),
+                    end,
+                };
+            }
+            Taken::Closed => {
+                return Reply {
+                    ending: Ok(Ending::Closed),
+                    end,
+                };
+            }
         }
     }
-    ended(control, Ending::Idle, at)
+    Reply {
+        ending: Ok(Ending::Idle),
+        end,
+    }
 }
 
 // A request arrives and is served, with all that waited before it.
-pub fn request(
-    control: Control,
-    streams: &mut [u64; 8],
-    kinds: &mut [u8; 32],
-    counts: &mut [i64; 32],
-    qids: &mut [i64; 32],
-    request: Request,
-    out: &mut [u8],
-) -> Served
+pub fn request(connection: &mut Connection, request: Request, out: &mut [u8]) -> Reply
     requires { enough ≤ length out.old }
-    ensures { Sends (served (joined control streams.old kinds.old counts.old qids.old) request) (joined result.control streams.new kinds.new counts.new qids.new) result out.old out.new }
+    ensures { Sends (served connection.old request) connection.new result out.old out.new }
 {
-    let arrived = arrive::step(control, streams, kinds, counts, qids, request);
-    let after = arrived.control;
-    let answer = arrived.answer;
-    match answer {
-        Arrival::Queued => serve(after, streams, kinds, counts, qids, out),
-        Arrival::Closed => ended(after, Ending::Closed, 0),
-        Arrival::Refused(why) => ended(after, Ending::Refused(why), 0),
+    match connection::arrive(connection, request) {
+        Ok(Arrival::Queued) => serve(connection, out),
+        Ok(Arrival::Closed) => Reply::silent(Ok(Ending::Closed)),
+        Err(why) => Reply::silent(Err(why)),
     }
 }

@@ -5,12 +5,9 @@ ghost use Rattle.session.specs.Text.{line_text};
 ghost use Rattle.session.specs.Session.{summary_line};
 
 use framing::writer;
-use framing::writer::Written;
-use packing::Packed;
+use lines::LINE_END;
 use states::answers::Summary;
 use summaries::summary;
-
-const LINE_END: u8 = 0x0A;
 
 // No summary is as long: each goes out in one chunk.
 const CHUNK: usize = 80;
@@ -21,8 +18,7 @@ pub fn put_line(bytes: &[u8], out: &mut [u8], at: usize) -> usize
     ensures answer { result ≡ at + length (line_text bytes.now) }
     ensures filled { out.new ≡ sets out.old at (line_text bytes.now) }
 {
-    let end = at + 2 * bytes.len();
-    hex_lines::encode(bytes, &mut out[at..end]);
+    let end = at + hex_lines::encode(bytes, &mut out[at..]).unwrap();
     out[end] = LINE_END;
     end + 1
 }
@@ -35,11 +31,7 @@ pub fn put_summary(summary: Summary, out: &mut [u8], at: usize) -> usize
 {
     let mut packed = [0u8; CHUNK];
     let mut chunk = [0u8; CHUNK + 4];
-    let Packed::To(size) = summary::pack_summary(summary, &mut packed, 0) else {
-        return at;
-    };
-    let Written::Bytes(n) = writer::write_chunks(&packed[0..size], CHUNK, &mut chunk) else {
-        return at;
-    };
-    put_line(&chunk[0..n], out, at)
+    let size = summary::pack_summary(summary, &mut packed, 0).unwrap();
+    let n = writer::write_chunks(&packed[..size], CHUNK, &mut chunk).unwrap();
+    put_line(&chunk[..n], out, at)
 }

@@ -2,7 +2,7 @@
 use mathlib.Core.Path.{◌≡◌, refl, sym, ap, ◌∙◌, subst}
 use mathlib.Core.Bool.{Bool, true, false, cond, true≢false, ◌||◌, and-eq-true_iff}
 use mathlib.Core.List.{List, [], ◌∷◌, ◌++◌, append_assoc, append-nil}
-use mathlib.Core.Option.{Option, none, some}
+use Rattle.std.specs.Prelude.{Option, None, Some}
 use mathlib.Core.Logic.{⊎_elim, ◌⊎◌, inl, inr}
 use Prim.Native.Nat.{ℕ, ◌+◌, ◌≤◌}
 use native.Mathlib.Nat.{add-zero, zero-add}
@@ -30,7 +30,8 @@ use Rattle.states.specs.Table.{Open, Table, Call, Said, Done, start, step, defun
 use Rattle.states.specs.Rules.{is_handed}
 use Rattle.states.specs.Events.{said_by, left_by, run_t, events_t, accepted_by, requests, Numbered, first, nth, numbered, looked_up, rising, handed_by, handed_over, awaited, answered_by, summary_by, summaries_from, wrongly_handed}
 use Rattle.states.specs.TableClaim.{Claim}
-use Rattle.states.proofs.Bools.{by-test, and_both}
+use Rattle.std.proofs.lemmas.Bool.{and_from}
+use Rattle.states.proofs.Bools.{by-test}
 use Rattle.states.proofs.Invariant.{Keeps, step_keeps, start-keeps, keeps-rules}
 use Rattle.states.proofs.Rows.{hands-running}
 use Rattle.states.proofs.Turns.{handed-facts}
@@ -38,7 +39,7 @@ use Rattle.states.proofs.Turns.{handed-facts}
 -- ---- a request in flight is the first that waits, and the one handed over
 pub data Awaits (t : Table) (was : Option Request) : Type 0 where
   idles : t.in_flight ≡ false → Awaits t was
-  flies : (r : Request) (ws : List Request) → t.waiting ≡ r ∷ ws → was ≡ some r → Awaits t was
+  flies : (r : Request) (ws : List Request) → t.waiting ≡ r ∷ ws → was ≡ Some r → Awaits t was
 
 awaits-first : (t : Table) (was : Option Request) → Awaits t was → t.in_flight ≡ true → was ≡ first t.waiting
 awaits-first t was (idles e) f = absurd (true≢false (sym f ∙ e))
@@ -53,12 +54,12 @@ awaits-more t was (flies q ws e w) s o r = flies q (ws ++ (r ∷ [])) (ap (λ (l
 -- what it hands over is the first
 pub data Hands (t u : Table) (s : Answer Said) : Type 0 where
   none-handed : handed_by s ≡ [] → (in_state u.state Defunct ≡ false → u.in_flight ≡ t.in_flight) → Hands t u s
-  first-handed : (r : Request) (ws : List Request) → t.waiting ≡ r ∷ ws → handed_by s ≡ record { number = t.sent + 1; request = some r } ∷ [] → t.in_flight ≡ false → u.in_flight ≡ true → Hands t u s
+  first-handed : (r : Request) (ws : List Request) → t.waiting ≡ r ∷ ws → handed_by s ≡ record { number = t.sent + 1; request = Some r } ∷ [] → t.in_flight ≡ false → u.in_flight ≡ true → Hands t u s
 
 pub data Moved (t : Table) (was : Option Request) (x : Call) (u : Table) (s : Answer Said) : Type 0 where
   quiet : summary_by (answered_by was t x) s ≡ [] → Hands t u s → Awaits u (awaited was s) → u.sent ≡ t.sent → u.accepted ≡ t.accepted + length (accepted_by x s)
       → (in_state u.state Defunct ≡ false → t.waiting ++ accepted_by x s ≡ u.waiting) → Moved t was x u s
-  spoke : (r : Request) (ws : List Request) → t.waiting ≡ r ∷ ws → summary_by (answered_by was t x) s ≡ record { number = t.sent + 1; request = some r } ∷ [] → handed_by s ≡ [] → u.in_flight ≡ false → Awaits u (awaited was s)
+  spoke : (r : Request) (ws : List Request) → t.waiting ≡ r ∷ ws → summary_by (answered_by was t x) s ≡ record { number = t.sent + 1; request = Some r } ∷ [] → handed_by s ≡ [] → u.in_flight ≡ false → Awaits u (awaited was s)
       → u.sent ≡ t.sent + 1 → u.accepted ≡ t.accepted → accepted_by x s ≡ [] → (in_state u.state Defunct ≡ false → u.waiting ≡ ws) → Moved t was x u s
 
 awaits-on : (t : Table) (was : Option Request) (x : Call) (u : Table) (s : Answer Said) → Moved t was x u s → Awaits u (awaited was s)
@@ -106,7 +107,7 @@ module _ (t : Table) (was : Option Request) (w : Awaits t was) where
   -- ---- take and report
   module _ (r : Request) (ws : List Request) (e : t.waiting ≡ r ∷ ws) where
     -- a summary for the first
-    speaks : (x : Call) (s : State) (o : Open) (b : Bool) (summary : Summary) → in_state s Defunct ≡ b → answered_by was t x ≡ some r → ((a : Answer Said) → accepted_by x a ≡ [])
+    speaks : (x : Call) (s : State) (o : Open) (b : Bool) (summary : Summary) → in_state s Defunct ≡ b → answered_by was t x ≡ Some r → ((a : Answer Said) → accepted_by x a ≡ [])
         → Does x (answer t s o (cond b [] ws) summary)
     speaks x s o b summary d h quiet-call =
         spoke r ws e (ap (λ (q : Option Request). record { number = t.sent + 1; request = q } ∷ []) h) refl refl (idles refl) refl refl (quiet-call (returned (T.answered summary (T.number_after t.sent))))
@@ -133,7 +134,7 @@ module _ (t : Table) (was : Option Request) (w : Awaits t was) where
         let after : Open = streams_after o t.state t.streams r in
         let new : State = new_state t.state (kind_of r) (response o r (length after.numbers)) in
         let summary : Summary = T.summary_of o t.state t.streams.next r in
-        let for : was ≡ some r = awaits-first t was w inflight ∙ ap first e in
+        let for : was ≡ Some r = awaits-first t was w inflight ∙ ap first e in
         by-test (Does (T.report o)) (in_state t.state Interrupted) (λ _. speaks (T.report o) t.state t.streams false summary alive for (λ _. refl))
         (λ _. speaks (T.report o) new after (in_state new Defunct) summary refl for (λ _. refl))
 
@@ -224,7 +225,7 @@ Right rs hs = hs ≡ looked_up rs hs
 right-none : (rs : List Request) (hs : List Numbered) → hs ≡ [] → Right rs hs
 right-none rs hs e = subst (Right rs) (sym e) refl
 
-nth-next : (before l : List Request) (r : Request) (n : ℕ) → length before ≡ n → nth (n + 1) (before ++ (r ∷ l)) ≡ some r
+nth-next : (before l : List Request) (r : Request) (n : ℕ) → length before ≡ n → nth (n + 1) (before ++ (r ∷ l)) ≡ Some r
 nth-next before l r n e = ap (λ (k : ℕ). nth k (before ++ (r ∷ l))) (add-one n) ∙ ap first (drop_at before (r ∷ l) n e)
 
 -- as many as were sent came before those that wait
@@ -232,7 +233,7 @@ right-more : (t u : Table) (s : Answer Said) (before l : List Request) (hs : Lis
     → Right (before ++ (t.waiting ++ l)) (handed_by s ++ hs)
 right-more t u s before l hs (none-handed z f) n h = subst (Right (before ++ (t.waiting ++ l))) (ap (λ (a : List Numbered). a ++ hs) (sym z)) h
 right-more t u s before l hs (first-handed r ws e z f g) n h =
-    let right : nth (t.sent + 1) (before ++ (t.waiting ++ l)) ≡ some r = ap (λ (v : List Request). nth (t.sent + 1) (before ++ (v ++ l))) e ∙ nth-next before (ws ++ l) r t.sent n in
+    let right : nth (t.sent + 1) (before ++ (t.waiting ++ l)) ≡ Some r = ap (λ (v : List Request). nth (t.sent + 1) (before ++ (v ++ l))) e ∙ nth-next before (ws ++ l) r t.sent n in
     subst (Right (before ++ (t.waiting ++ l))) (ap (λ (a : List Numbered). a ++ hs) (sym z)) (λ i. record { number = t.sent + 1; request = sym right i } ∷ h i)
 
 -- ---- nothing is handed over twice
@@ -254,7 +255,7 @@ rising-from : (n m : ℕ) (hs : List Numbered) → n ≤ m → rising m hs ≡ t
 rising-from n m [] h e = refl
 rising-from n m (x ∷ hs) h e =
     let p = (and-eq-true_iff (ltb m x.number) (rising x.number hs)).0 e in
-    and_both _ _ (lt-ltb n x.number (omega (arith, ltb-true m x.number p.0))) p.1
+    and_from _ _ (lt-ltb n x.number (omega (arith, ltb-true m x.number p.0))) p.1
 
 rising_none : (n : ℕ) (hs : List Numbered) → hs ≡ [] → rising n hs ≡ true
 rising_none n hs e = ap (rising n) e
@@ -267,7 +268,7 @@ rising-more t u s hs e (none-handed z f) dies h =
     (λ d. subst (λ (n : ℕ). rising n hs ≡ true) (λ i. cond (f d i) (e i + 1) (e i)) h) (either (in_state u.state Defunct))
 rising-more t u s hs e (first-handed r ws w z f g) dies h =
     ap (λ (a : List Numbered). rising (latest t) (a ++ hs)) z
-    ∙ and_both _ _ (ap (λ (n : ℕ). ltb n (t.sent + 1)) (latest-is t false f) ∙ lt-ltb t.sent (t.sent + 1) (omega arith))
+    ∙ and_from _ _ (ap (λ (n : ℕ). ltb n (t.sent + 1)) (latest-is t false f) ∙ lt-ltb t.sent (t.sent + 1) (omega arith))
     (subst (λ (n : ℕ). rising n hs ≡ true) (latest-is u true g ∙ ap (λ (n : ℕ). n + 1) e) h)
 
 -- ---- the whole run of the table
@@ -283,17 +284,17 @@ record Told (t : Table) (was : Option Request) (calls : List Call) : Type 0 wher
 kth-quiet : (a b : List Numbered) (k j : ℕ) (l m : List Request) → a ≡ b → j ≡ k → m ≡ l → b ≡ numbered j (take (length b) m) → a ≡ numbered k (take (length a) l)
 kth-quiet a b k j l m e p q h = e ∙ h ∙ (λ i. numbered (p i) (take (length (sym e i)) (q i)))
 
-kth-spoke : (a b : List Numbered) (k j : ℕ) (r : Request) (l m all : List Request) → a ≡ record { number = k; request = some r } ∷ b → j ≡ k + 1 → all ≡ r ∷ l → m ≡ l → b ≡ numbered j (take (length b) m) → a ≡ numbered k (take (length a) all)
+kth-spoke : (a b : List Numbered) (k j : ℕ) (r : Request) (l m all : List Request) → a ≡ record { number = k; request = Some r } ∷ b → j ≡ k + 1 → all ≡ r ∷ l → m ≡ l → b ≡ numbered j (take (length b) m) → a ≡ numbered k (take (length a) all)
 kth-spoke a b k j r l m all e p f q h =
-    e ∙ (λ i. record { number = k; request = some r } ∷ (h ∙ (λ z. numbered (p z) (take (length b) (q z)))) i) ∙ (λ i. numbered k (take (length (sym e i)) (sym f i)))
+    e ∙ (λ i. record { number = k; request = Some r } ∷ (h ∙ (λ z. numbered (p z) (take (length b) (q z)))) i) ∙ (λ i. numbered k (take (length (sym e i)) (sym f i)))
 
 -- the same where the connection has ended
 kth-ended : (a : List Numbered) (k : ℕ) (l : List Request) → a ≡ [] → a ≡ numbered k (take (length a) l)
 kth-ended a k l e = e ∙ (λ i. numbered k (take (length (sym e i)) l))
 
-kth-last : (a b : List Numbered) (k : ℕ) (r : Request) (l all : List Request) → a ≡ record { number = k; request = some r } ∷ b → b ≡ [] → all ≡ r ∷ l → a ≡ numbered k (take (length a) all)
+kth-last : (a b : List Numbered) (k : ℕ) (r : Request) (l all : List Request) → a ≡ record { number = k; request = Some r } ∷ b → b ≡ [] → all ≡ r ∷ l → a ≡ numbered k (take (length a) all)
 kth-last a b k r l all e d f =
-    let whole : a ≡ record { number = k; request = some r } ∷ [] = e ∙ ap (λ (z : List Numbered). record { number = k; request = some r } ∷ z) d in
+    let whole : a ≡ record { number = k; request = Some r } ∷ [] = e ∙ ap (λ (z : List Numbered). record { number = k; request = Some r } ∷ z) d in
     whole ∙ (λ i. numbered k (take (length (sym whole i)) (sym f i)))
 
 module _ (t : Table) (was : Option Request) (x : Call) (xs : List Call) (rest : Told (left_by t (step t x)) (awaited was (said_by (step t x))) xs) where
@@ -350,7 +351,7 @@ module _ (t : Table) (was : Option Request) (x : Call) (xs : List Call) (rest : 
         never = none-wrongly;
       }
   told_more (spoke r ws e z h g w s a b f) =
-      let all : all-summaries ≡ record { number = t.sent + 1; request = some r } ∷ ss = ap (λ (l : List Numbered). l ++ ss) z in
+      let all : all-summaries ≡ record { number = t.sent + 1; request = Some r } ∷ ss = ap (λ (l : List Numbered). l ++ ss) z in
       let same : requests (events_t t (x ∷ xs)) ≡ rs = ap (λ (l : List Request). l ++ rs) b in
       let whole : all-requests ≡ r ∷ (ws ++ rs) = (λ i. e i ++ same i) in
       record {
@@ -381,7 +382,7 @@ run-keeps t k (x ∷ xs) = run-keeps (left_by t (step t x)) (step_keeps t k x) x
 -- of every list of calls from a fresh record
 pub table-claim : Claim
 table-claim calls =
-    let g : Told start none calls = told start none (idles refl) calls in
+    let g : Told start None calls = told start None (idles refl) calls in
     let t = run_t start calls in
     let k : Keeps t = run-keeps start start-keeps calls in
     record {

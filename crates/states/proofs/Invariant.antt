@@ -22,8 +22,9 @@ use Rattle.states.specs.Table.{Open, Table, Call, Done, arrive, take, report, cl
 use Rattle.states.specs.Rules.{waiting_rule, numbers_rule, distinct_below, open_rule, reset_rule, is_handed, may_be_in_flight, first_in_flight, flight_rule, counts_rule, state_rules, rules}
 use Rattle.states.specs.Events.{left_by}
 use Rattle.states.specs.Private.Outcomes.{last_state}
-use Rattle.states.proofs.Bools.{by-test, or_left, or_right, and_left, and_right, and_both, not_yes, not-no, alike_same, same_alike}
-use Rattle.states.proofs.Lists.{any_append}
+use Rattle.std.proofs.lemmas.Bool.{or_parts, and_parts, and_from, not_from_false, not-true}
+use Rattle.states.proofs.Bools.{by-test, alike_same, same_alike}
+use Rattle.std.proofs.lemmas.List.Folds.{list_any-append}
 use Rattle.states.proofs.Rows.{hands-running, hands-calm, hands-work, works-calm, new-calm, run-streams, rest-streams, after-failure, after_more, after-batch}
 use Rattle.states.proofs.Standing.{may-in, may-out}
 use Rattle.states.proofs.Turns.{handed-facts, room-for-one}
@@ -61,22 +62,22 @@ without-length q (x ∷ xs) =
 not-open : (next : ℕ) (l : List ℕ) → distinct_below next l ≡ true → has next l ≡ false
 not-open next [] e = refl
 not-open next (y ∷ ys) e =
-    let low : y < next = ltb-true y next (and_left (ltb y next) (not (has y ys) && distinct_below next ys) e) in
-    let rest = and_right (not (has y ys)) (distinct_below next ys) (and_right (ltb y next) (not (has y ys) && distinct_below next ys) e) in
+    let low : y < next = ltb-true y next ((and_parts (ltb y next) (not (has y ys) && distinct_below next ys) e).0) in
+    let rest = (and_parts (not (has y ys)) (distinct_below next ys) ((and_parts (ltb y next) (not (has y ys) && distinct_below next ys) e).1)).1 in
     ap (λ (b : Bool). b || has next ys) (ne_eqb y next (λ q. omega arith)) ∙ not-open next ys rest
 
 -- and it may be opened
 one-more-apart : (next : ℕ) (l : List ℕ) → distinct_below next l ≡ true → distinct_below (next + 1) (l ++ (next ∷ [])) ≡ true
 one-more-apart next [] e = ap (λ (b : Bool). b && true) (lt-ltb next (next + 1) (omega arith))
 one-more-apart next (y ∷ ys) e =
-    let low : y < next = ltb-true y next (and_left (ltb y next) (not (has y ys) && distinct_below next ys) e) in
-    let rest = and_right (ltb y next) (not (has y ys) && distinct_below next ys) e in
-    let old : has y ys ≡ false = not-no (has y ys) (and_left (not (has y ys)) (distinct_below next ys) rest) in
+    let low : y < next = ltb-true y next ((and_parts (ltb y next) (not (has y ys) && distinct_below next ys) e).0) in
+    let rest = (and_parts (ltb y next) (not (has y ys) && distinct_below next ys) e).1 in
+    let old : has y ys ≡ false = not-true (has y ys) ((and_parts (not (has y ys)) (distinct_below next ys) rest).0) in
     let new : has y (ys ++ (next ∷ [])) ≡ false =
-    any_append (λ (x : ℕ). eqb x y) ys (next ∷ []) ∙ ap (λ (b : Bool). b || (eqb next y || false)) old ∙ ap (λ (b : Bool). b || false) (ne_eqb next y (λ q. omega arith)) in
-    and_both (ltb y (next + 1)) (not (has y (ys ++ (next ∷ []))) && distinct_below (next + 1) (ys ++ (next ∷ []))) (lt-ltb y (next + 1) (omega arith))
-    (and_both (not (has y (ys ++ (next ∷ [])))) (distinct_below (next + 1) (ys ++ (next ∷ []))) (ap not new)
-    (one-more-apart next ys (and_right (not (has y ys)) (distinct_below next ys) rest)))
+    list_any-append (λ (x : ℕ). eqb x y) ys (next ∷ []) ∙ ap (λ (b : Bool). b || (eqb next y || false)) old ∙ ap (λ (b : Bool). b || false) (ne_eqb next y (λ q. omega arith)) in
+    and_from (ltb y (next + 1)) (not (has y (ys ++ (next ∷ []))) && distinct_below (next + 1) (ys ++ (next ∷ []))) (lt-ltb y (next + 1) (omega arith))
+    (and_from (not (has y (ys ++ (next ∷ [])))) (distinct_below (next + 1) (ys ++ (next ∷ []))) (ap not new)
+    (one-more-apart next ys ((and_parts (not (has y ys)) (distinct_below next ys) rest).1)))
 
 pub more_numbers : (o : Open) → Numbers o → length o.numbers < 8 → o.next < 65536 → Numbers (one_more o)
 more_numbers o n short low = record {
@@ -88,18 +89,18 @@ more_numbers o n short low = record {
 any-without : (f : ℕ → Bool) (q : ℕ) (l : List ℕ) → any f l ≡ false → any f (without q l) ≡ false
 any-without f q [] e = refl
 any-without f q (x ∷ xs) e =
-    let rest = any-without f q xs (or_right (f x) (any f xs) e) in
-    by-test (λ (r : List ℕ). any f r ≡ false) (eqb x q) (λ _. rest) (λ _. ap (λ (b : Bool). b || any f (without q xs)) (or_left (f x) (any f xs) e) ∙ rest)
+    let rest = any-without f q xs ((or_parts (f x) (any f xs) e).1) in
+    by-test (λ (r : List ℕ). any f r ≡ false) (eqb x q) (λ _. rest) (λ _. ap (λ (b : Bool). b || any f (without q xs)) ((or_parts (f x) (any f xs) e).0) ∙ rest)
 
 one-less-apart : (q next : ℕ) (l : List ℕ) → distinct_below next l ≡ true → distinct_below next (without q l) ≡ true
 one-less-apart q next [] e = refl
 one-less-apart q next (x ∷ xs) e =
-    let both = and_right (ltb x next) (not (has x xs) && distinct_below next xs) e in
-    let rest = one-less-apart q next xs (and_right (not (has x xs)) (distinct_below next xs) both) in
-    let gone = any-without (λ (y : ℕ). eqb y x) q xs (not-no (has x xs) (and_left (not (has x xs)) (distinct_below next xs) both)) in
+    let both = (and_parts (ltb x next) (not (has x xs) && distinct_below next xs) e).1 in
+    let rest = one-less-apart q next xs ((and_parts (not (has x xs)) (distinct_below next xs) both).1) in
+    let gone = any-without (λ (y : ℕ). eqb y x) q xs (not-true (has x xs) ((and_parts (not (has x xs)) (distinct_below next xs) both).0)) in
     by-test (λ (r : List ℕ). distinct_below next r ≡ true) (eqb x q) (λ _. rest)
-    (λ _. and_both (ltb x next) (not (has x (without q xs)) && distinct_below next (without q xs)) (and_left (ltb x next) (not (has x xs) && distinct_below next xs) e)
-    (and_both (not (has x (without q xs))) (distinct_below next (without q xs)) (ap not gone) rest))
+    (λ _. and_from (ltb x next) (not (has x (without q xs)) && distinct_below next (without q xs)) ((and_parts (ltb x next) (not (has x xs) && distinct_below next xs) e).0)
+    (and_from (not (has x (without q xs))) (distinct_below next (without q xs)) (ap not gone) rest))
 
 pub less-numbers : (q : ℕ) (o : Open) → Numbers o → Numbers (one_less q o)
 less-numbers q o n = let less = without-length q o.numbers in record { few = omega (arith, n.few); top = n.top; apart = one-less-apart q o.next o.numbers n.apart }
@@ -150,13 +151,13 @@ module _ (t : Table) (k : Keeps t) (alive : in_state t.state Defunct ≡ false) 
   longer = length-append t.waiting (r ∷ [])
 
   in-range : any out_of_range (t.waiting ++ (r ∷ [])) ≡ false
-  in-range = any_append out_of_range t.waiting (r ∷ []) ∙ (λ i. k.ranges i || (not (ok i) || false))
+  in-range = list_any-append out_of_range t.waiting (r ∷ []) ∙ (λ i. k.ranges i || (not (ok i) || false))
 
   summed : t.accepted + 1 ≡ t.sent + length (t.waiting ++ (r ∷ []))
   summed = let e = k.sum alive in omega (arith, longer)
 
   told_more : {b c : Bool} → any (is RESET) t.waiting ≡ b → is RESET r ≡ c → any (is RESET) (t.waiting ++ (r ∷ [])) ≡ (b || (c || false))
-  told_more p q = any_append (is RESET) t.waiting (r ∷ []) ∙ (λ i. p i || (q i || false))
+  told_more p q = list_any-append (is RESET) t.waiting (r ∷ []) ∙ (λ i. p i || (q i || false))
 
   queued-keeps : is RESET r ≡ false → Keeps (enqueued t t.state t.streams r)
   queued-keeps other = record {
@@ -230,7 +231,7 @@ module _ (t : Table) (k : Keeps t) (alive : in_state t.state Defunct ≡ false) 
       let long : length t.waiting ≡ suc (length ws) = ap length e in
       record {
         long = omega (arith, k.long);
-        ranges = or_right (out_of_range r) (any out_of_range ws) (sym (ap (any out_of_range) e) ∙ k.ranges);
+        ranges = (or_parts (out_of_range r) (any out_of_range ws) (sym (ap (any out_of_range) e) ∙ k.ranges)).1;
         numbers = n;
         opened = opened;
         told = told;
@@ -242,7 +243,7 @@ module _ (t : Table) (k : Keeps t) (alive : in_state t.state Defunct ≡ false) 
 
   -- where no RESET waits, none waits behind the first
   calm : in_state t.state Interrupted ≡ false → any (is RESET) ws ≡ false
-  calm f = or_right (is RESET r) (any (is RESET) ws) (sym (ap (any (is RESET)) e) ∙ sym k.told ∙ f)
+  calm f = (or_parts (is RESET r) (any (is RESET) ws) (sym (ap (any (is RESET)) e) ∙ sym k.told ∙ f)).1
 
   -- where the first is no RESET, those behind it say whether one waits
   behind : is RESET r ≡ false → in_state t.state Interrupted ≡ any (is RESET) ws
@@ -261,7 +262,7 @@ module _ (t : Table) (k : Keeps t) (alive : in_state t.state Defunct ≡ false) 
 
   -- ---- take
   running : hands_over t.state (kind_of r) ≡ true → in_state t.state Interrupted ≡ false
-  running h = or_right (in_state t.state Failed) (in_state t.state Interrupted) (hands-running t.state (kind_of r) h)
+  running h = (or_parts (in_state t.state Failed) (in_state t.state Interrupted) (hands-running t.state (kind_of r) h)).1
 
   hand-keeps : may_be_in_flight t.state t.streams r ≡ true → Keeps (taken U.Handed t r ws).table
   hand-keeps f = record {
@@ -304,8 +305,8 @@ module _ (t : Table) (k : Keeps t) (alive : in_state t.state Defunct ≡ false) 
         by-test Numbers (fetches r) (λ _. less-numbers (named (asked r) t.streams.next) t.streams k.numbers)
         (λ _. by-test Numbers (is RUN r && in_transaction t.state)
         (λ run.
-        let free : is_full t.state t.streams ≡ false = sym (ap (λ (b : Bool). b && is_full t.state t.streams) (and_left (is RUN r) (in_transaction t.state) run)) ∙ facts.1 in
-        let room = room-for-one t.state t.streams (and_right (is RUN r) (in_transaction t.state) run) free in
+        let free : is_full t.state t.streams ≡ false = sym (ap (λ (b : Bool). b && is_full t.state t.streams) ((and_parts (is RUN r) (in_transaction t.state) run).0)) ∙ facts.1 in
+        let room = room-for-one t.state t.streams ((and_parts (is RUN r) (in_transaction t.state) run).1) free in
         more_numbers t.streams k.numbers room.0 room.1)
         (λ _. by-test Numbers (is BEGIN r) (λ _. record { few = omega arith; top = omega arith; apart = refl }) (λ _. k.numbers)))
 
@@ -340,9 +341,9 @@ module _ (t : Table) (k : Keeps t) (alive : in_state t.state Defunct ≡ false) 
         respond other (length (o.numbers ++ (o.next ∷ []))) ∙ run-streams s (kind_of r) facts.0 run ∙ sym (le-leb 1 (length (o.numbers ++ (o.next ∷ []))) (omega arith)))
         (λ rest.
         let none = rest-streams s (kind_of r) facts.0 other rest in
-        let new = or_left (in_state (new_state s (kind_of r) success) TxStreaming) (in_state s TxStreaming) none in
+        let new = (or_parts (in_state (new_state s (kind_of r) success) TxStreaming) (in_state s TxStreaming) none).0 in
         by-test OpenedIn (is BEGIN r) (λ _. respond other 0 ∙ new)
-        (λ _. respond other (length o.numbers) ∙ new ∙ sym (or_right (in_state (new_state s (kind_of r) success) TxStreaming) (in_state s TxStreaming) none) ∙ k.opened)))
+        (λ _. respond other (length o.numbers) ∙ new ∙ sym ((or_parts (in_state (new_state s (kind_of r) success) TxStreaming) (in_state s TxStreaming) none).1) ∙ k.opened)))
 
     settled-numbers : (o : Outcome) → Numbers (streams_after o t.state t.streams r)
     settled-numbers O.Success = success-numbers
@@ -420,47 +421,47 @@ start-keeps = record {
 pub keeps-rules : (t : Table) → Keeps t → rules t ≡ true
 unfolding rules waiting_rule numbers_rule state_rules counts_rule
 keeps-rules t k =
-    and_both _ _ (and_both _ _ (le-leb _ _ k.long) (not_yes _ k.ranges))
-    (and_both _ _ (and_both _ _ (le-leb _ _ k.numbers.few) (and_both _ _ (le-leb _ _ k.numbers.top) k.numbers.apart))
-    (and_both _ _ (alike_same _ _ k.opened)
-    (and_both _ _ (alike_same _ _ k.told)
-    (and_both _ _ (by-test (λ (b : Bool). b ≡ true) t.in_flight k.first (λ _. refl))
-    (and_both _ _ (le-leb _ _ k.most)
+    and_from _ _ (and_from _ _ (le-leb _ _ k.long) (not_from_false _ k.ranges))
+    (and_from _ _ (and_from _ _ (le-leb _ _ k.numbers.few) (and_from _ _ (le-leb _ _ k.numbers.top) k.numbers.apart))
+    (and_from _ _ (alike_same _ _ k.opened)
+    (and_from _ _ (alike_same _ _ k.told)
+    (and_from _ _ (by-test (λ (b : Bool). b ≡ true) t.in_flight k.first (λ _. refl))
+    (and_from _ _ (le-leb _ _ k.most)
     (by-test (λ (b : Bool). b ≡ true) (in_state t.state Defunct)
-    (λ d. and_both _ _ (eq-eqb _ _ (k.gone d).0) (le-leb _ _ (k.gone d).1)) (λ d. eq-eqb _ _ (k.sum d))))))))
+    (λ d. and_from _ _ (eq-eqb _ _ (k.gone d).0) (le-leb _ _ (k.gone d).1)) (λ d. eq-eqb _ _ (k.sum d))))))))
 
 -- and back
 pub rules-keep : (t : Table) → rules t ≡ true → Keeps t
 unfolding rules waiting_rule numbers_rule state_rules counts_rule
 rules-keep t e =
-    let waiting = and_left (waiting_rule t.waiting) (numbers_rule t.streams && state_rules t) e in
-    let e₁ = and_right (waiting_rule t.waiting) (numbers_rule t.streams && state_rules t) e in
-    let numbers = and_left (numbers_rule t.streams) (state_rules t) e₁ in
-    let below = and_right (leb (length t.streams.numbers) 8) (leb t.streams.next 65536 && distinct_below t.streams.next t.streams.numbers) numbers in
+    let waiting = (and_parts (waiting_rule t.waiting) (numbers_rule t.streams && state_rules t) e).0 in
+    let e₁ = (and_parts (waiting_rule t.waiting) (numbers_rule t.streams && state_rules t) e).1 in
+    let numbers = (and_parts (numbers_rule t.streams) (state_rules t) e₁).0 in
+    let below = (and_parts (leb (length t.streams.numbers) 8) (leb t.streams.next 65536 && distinct_below t.streams.next t.streams.numbers) numbers).1 in
     let opened = open_rule t.state t.streams in
     let reset = reset_rule t.state t.waiting in
     let flight = flight_rule t.in_flight t.state t.streams t.waiting in
     let counts = counts_rule t.state (length t.waiting) t.accepted t.sent in
-    let e₂ = and_right (numbers_rule t.streams) (state_rules t) e₁ in
-    let e₃ = and_right opened (reset && (flight && counts)) e₂ in
-    let e₄ = and_right reset (flight && counts) e₃ in
-    let e₅ = and_right flight counts e₄ in
+    let e₂ = (and_parts (numbers_rule t.streams) (state_rules t) e₁).1 in
+    let e₃ = (and_parts opened (reset && (flight && counts)) e₂).1 in
+    let e₄ = (and_parts reset (flight && counts) e₃).1 in
+    let e₅ = (and_parts flight counts e₄).1 in
     let sums = cond (in_state t.state Defunct) (eqb (length t.waiting) 0 && leb t.sent t.accepted) (eqb t.accepted (t.sent + length t.waiting)) in
-    let e₆ = and_right (leb t.accepted 4294967295) sums e₅ in
+    let e₆ = (and_parts (leb t.accepted 4294967295) sums e₅).1 in
     record {
-      long = leb-true _ _ (and_left (leb (length t.waiting) 32) (not (any out_of_range t.waiting)) waiting);
-      ranges = not-no _ (and_right (leb (length t.waiting) 32) (not (any out_of_range t.waiting)) waiting);
+      long = leb-true _ _ ((and_parts (leb (length t.waiting) 32) (not (any out_of_range t.waiting)) waiting).0);
+      ranges = not-true _ ((and_parts (leb (length t.waiting) 32) (not (any out_of_range t.waiting)) waiting).1);
       numbers = record {
-        few = leb-true _ _ (and_left (leb (length t.streams.numbers) 8) (leb t.streams.next 65536 && distinct_below t.streams.next t.streams.numbers) numbers);
-        top = leb-true _ _ (and_left (leb t.streams.next 65536) (distinct_below t.streams.next t.streams.numbers) below);
-        apart = and_right (leb t.streams.next 65536) (distinct_below t.streams.next t.streams.numbers) below;
+        few = leb-true _ _ ((and_parts (leb (length t.streams.numbers) 8) (leb t.streams.next 65536 && distinct_below t.streams.next t.streams.numbers) numbers).0);
+        top = leb-true _ _ ((and_parts (leb t.streams.next 65536) (distinct_below t.streams.next t.streams.numbers) below).0);
+        apart = (and_parts (leb t.streams.next 65536) (distinct_below t.streams.next t.streams.numbers) below).1;
       };
-      opened = same_alike _ _ (and_left opened (reset && (flight && counts)) e₂);
-      told = same_alike _ _ (and_left reset (flight && counts) e₃);
-      first = λ f. sym (ap (λ (b : Bool). cond b (first_in_flight t.state t.streams t.waiting) true) f) ∙ and_left flight counts e₄;
-      most = leb-true _ _ (and_left (leb t.accepted 4294967295) sums e₅);
+      opened = same_alike _ _ ((and_parts opened (reset && (flight && counts)) e₂).0);
+      told = same_alike _ _ ((and_parts reset (flight && counts) e₃).0);
+      first = λ f. sym (ap (λ (b : Bool). cond b (first_in_flight t.state t.streams t.waiting) true) f) ∙ (and_parts flight counts e₄).0;
+      most = leb-true _ _ ((and_parts (leb t.accepted 4294967295) sums e₅).0);
       gone = λ d. let both = sym (chosen d) ∙ e₆ in
-          (eqb-true _ _ (and_left (eqb (length t.waiting) 0) (leb t.sent t.accepted) both), leb-true _ _ (and_right (eqb (length t.waiting) 0) (leb t.sent t.accepted) both));
+          (eqb-true _ _ ((and_parts (eqb (length t.waiting) 0) (leb t.sent t.accepted) both).0), leb-true _ _ ((and_parts (eqb (length t.waiting) 0) (leb t.sent t.accepted) both).1));
       sum = λ d. eqb-true _ _ (sym (chosen d) ∙ e₆);
     }
   where

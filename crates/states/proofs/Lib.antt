@@ -3,7 +3,6 @@ pub mod Counting
 pub mod Invariant
 pub mod Lists
 pub mod Rows
-pub mod Signed
 pub mod Standing
 pub mod Stopped
 pub mod Turns

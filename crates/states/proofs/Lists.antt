@@ -1,14 +1,12 @@
--- Laws of lists: a run of stores at the front of a list, and a scan of a list from a place on. Assumes nothing.
+-- Laws of lists: a run of stores at the front of a list. Assumes nothing.
 use mathlib.Core.Path.{◌≡◌, refl, sym, ap, ◌∙◌}
-use mathlib.Core.Bool.{Bool, true, false, ◌||◌, or_assoc}
 use mathlib.Core.List.{List, [], ◌∷◌, ◌++◌}
 use Prim.Native.Nat.{ℕ, suc, ◌+◌, ◌<◌, ◌≤◌}
 use native.Mathlib.Numerals.{add-one}
 use native.Mathlib.Nat.{zero-add, add-zero}
 use native.Mathlib.Omega.{arith}
-use lib.ListN.{length, take, drop, get_or, set, take-append-drop, drop_of_length-le}
-use lib.Seq.{drop-cons, length-take-le, take-suc, take_at, sets, sets-eq}
-use Rattle.states.specs.Requests.{any}
+use lib.ListN.{length, take, drop, get_or, set, take-append-drop}
+use lib.Seq.{length-take-le, take-suc, take_at, sets, sets-eq}
 
 -- ---- a run of stores at the front
 module _ {A : Type 0} where
@@ -36,23 +34,3 @@ module _ {A : Type 0} where
   -- one element more of a list's front
   pub take_more : (l : List A) (i : ℕ) (d : A) → i < length l → take i l ++ (get_or l i d ∷ []) ≡ take (i + 1) l
   take_more l i d h = sym (take-suc l i d h) ∙ ap (λ (k : ℕ). take k l) (sym (add-one i))
-
--- ---- a scan from a place on
-module _ {A : Type 0} (f : A → Bool) (l : List A) (i : ℕ) where
-  scan-at : (d : A) → i < length l → any f (drop i l) ≡ (f (get_or l i d) || any f (drop (i + 1) l))
-  scan-at d h = rw (add-one, drop-cons l i d)
-
-  pub scan-found : (d : A) → i < length l → f (get_or l i d) ≡ true → any f (drop i l) ≡ true
-  scan-found d h t = scan-at d h ∙ ap (λ (b : Bool). b || any f (drop (i + 1) l)) t
-
-  pub scan-passed : (d : A) → i < length l → f (get_or l i d) ≡ false → any f (drop i l) ≡ any f (drop (i + 1) l)
-  scan-passed d h t = scan-at d h ∙ ap (λ (b : Bool). b || any f (drop (i + 1) l)) t
-
-  pub scan-ended : length l ≤ i → any f (drop i l) ≡ false
-  scan-ended h = ap (any f) (drop_of_length-le l h)
-
--- ---- tests over lists
-module _ {A : Type 0} (f : A → Bool) where
-  pub any_append : (xs ys : List A) → any f (xs ++ ys) ≡ (any f xs || any f ys)
-  any_append [] ys = refl
-  any_append (x ∷ xs) ys = ap (λ (b : Bool). f x || b) (any_append xs ys) ∙ sym (or_assoc (f x) (any f xs) (any f ys))

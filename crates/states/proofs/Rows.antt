@@ -8,14 +8,14 @@ use lib.Dec.{eqb}
 use borrow.Author.Tests.{eqb-true}
 use Rattle.states.specs.declared.state.State.{State}
 use Rattle.states.specs.declared.state.State.TheVariants.{Connected, Ready, Streaming, TxReady, TxStreaming, Failed, Interrupted, Defunct}
-use Rattle.states.specs.declared.request.Request.{Request}
-use Rattle.states.specs.Requests.{rank, in_state, in_transaction, is_stopped, any, is_kind, is, fetching, fetches, kind_of}
+use Rattle.states.specs.Requests.{rank, in_state, in_transaction, is_stopped, any, is_kind, fetching}
 use Rattle.bolt.specs.Requests.{Kind, HELLO, GOODBYE, RESET, RUN, BEGIN, COMMIT, ROLLBACK, DISCARD, PULL}
 use Rattle.states.specs.Appendix.{rows, added_rows, is_row, follow, Response, success, more, last, last-of-several, failure, ignored, new_state, hands_over, handed_somewhere, works}
 use Rattle.states.specs.Table.{ignores}
 use Rattle.states.specs.Stopped.{run_to_pull}
 use Rattle.states.specs.Private.Outcomes.{last_state, failure_state}
-use Rattle.states.proofs.Bools.{and_left, and_right, and_both, not-no, same_alike}
+use Rattle.std.proofs.lemmas.Bool.{and_parts, and_from, not-true}
+use Rattle.states.proofs.Bools.{same_alike}
 
 -- ---- every state
 pub all_states : (State → Bool) → Bool
@@ -25,21 +25,21 @@ module _ (f : State → Bool) where
   pub each-state : all_states f ≡ true → (s : State) → f s ≡ true
   unfolding all_states
   each-state e s =
-      let e₁ = and_right (f Connected) _ e in
-      let e₂ = and_right (f Ready) _ e₁ in
-      let e₃ = and_right (f Streaming) _ e₂ in
-      let e₄ = and_right (f TxReady) _ e₃ in
-      let e₅ = and_right (f TxStreaming) _ e₄ in
-      let e₆ = and_right (f Failed) _ e₅ in
+      let e₁ = (and_parts (f Connected) _ e).1 in
+      let e₂ = (and_parts (f Ready) _ e₁).1 in
+      let e₃ = (and_parts (f Streaming) _ e₂).1 in
+      let e₄ = (and_parts (f TxReady) _ e₃).1 in
+      let e₅ = (and_parts (f TxStreaming) _ e₄).1 in
+      let e₆ = (and_parts (f Failed) _ e₅).1 in
       elim s as (λ (s : State). f s ≡ true) [
-        | Connected ↦ and_left (f Connected) _ e
-        | Ready ↦ and_left (f Ready) _ e₁
-        | Streaming ↦ and_left (f Streaming) _ e₂
-        | TxReady ↦ and_left (f TxReady) _ e₃
-        | TxStreaming ↦ and_left (f TxStreaming) _ e₄
-        | Failed ↦ and_left (f Failed) _ e₅
-        | Interrupted ↦ and_left (f Interrupted) _ e₆
-        | Defunct ↦ and_right (f Interrupted) _ e₆
+        | Connected ↦ (and_parts (f Connected) _ e).0
+        | Ready ↦ (and_parts (f Ready) _ e₁).0
+        | Streaming ↦ (and_parts (f Streaming) _ e₂).0
+        | TxReady ↦ (and_parts (f TxReady) _ e₃).0
+        | TxStreaming ↦ (and_parts (f TxStreaming) _ e₄).0
+        | Failed ↦ (and_parts (f Failed) _ e₅).0
+        | Interrupted ↦ (and_parts (f Interrupted) _ e₆).0
+        | Defunct ↦ (and_parts (f Interrupted) _ e₆).1
       ]
 
 pub all_kinds : (Kind → Bool) → Bool
@@ -49,23 +49,23 @@ module _ (f : Kind → Bool) where
   pub each-kind : all_kinds f ≡ true → (k : Kind) → f k ≡ true
   unfolding all_kinds
   each-kind e k =
-      let e₁ = and_right (f HELLO) _ e in
-      let e₂ = and_right (f GOODBYE) _ e₁ in
-      let e₃ = and_right (f RESET) _ e₂ in
-      let e₄ = and_right (f RUN) _ e₃ in
-      let e₅ = and_right (f BEGIN) _ e₄ in
-      let e₆ = and_right (f COMMIT) _ e₅ in
-      let e₇ = and_right (f ROLLBACK) _ e₆ in
+      let e₁ = (and_parts (f HELLO) _ e).1 in
+      let e₂ = (and_parts (f GOODBYE) _ e₁).1 in
+      let e₃ = (and_parts (f RESET) _ e₂).1 in
+      let e₄ = (and_parts (f RUN) _ e₃).1 in
+      let e₅ = (and_parts (f BEGIN) _ e₄).1 in
+      let e₆ = (and_parts (f COMMIT) _ e₅).1 in
+      let e₇ = (and_parts (f ROLLBACK) _ e₆).1 in
       elim k as (λ (k : Kind). f k ≡ true) [
-        | HELLO ↦ and_left (f HELLO) _ e
-        | GOODBYE ↦ and_left (f GOODBYE) _ e₁
-        | RESET ↦ and_left (f RESET) _ e₂
-        | RUN ↦ and_left (f RUN) _ e₃
-        | BEGIN ↦ and_left (f BEGIN) _ e₄
-        | COMMIT ↦ and_left (f COMMIT) _ e₅
-        | ROLLBACK ↦ and_left (f ROLLBACK) _ e₆
-        | DISCARD ↦ and_left (f DISCARD) _ e₇
-        | PULL ↦ and_right (f DISCARD) _ e₇
+        | HELLO ↦ (and_parts (f HELLO) _ e).0
+        | GOODBYE ↦ (and_parts (f GOODBYE) _ e₁).0
+        | RESET ↦ (and_parts (f RESET) _ e₂).0
+        | RUN ↦ (and_parts (f RUN) _ e₃).0
+        | BEGIN ↦ (and_parts (f BEGIN) _ e₄).0
+        | COMMIT ↦ (and_parts (f COMMIT) _ e₅).0
+        | ROLLBACK ↦ (and_parts (f ROLLBACK) _ e₆).0
+        | DISCARD ↦ (and_parts (f DISCARD) _ e₇).0
+        | PULL ↦ (and_parts (f DISCARD) _ e₇).1
       ]
 
 -- every state and every kind
@@ -75,10 +75,6 @@ each f e s k = each-state (λ (s : State). f s k) (each-kind (λ (k : Kind). all
 -- two tests that agree on all of them
 agree : (f g : State → Kind → Bool) → all_kinds (λ (k : Kind). all_states (λ (s : State). beq (f s k) (g s k))) ≡ true → (s : State) (k : Kind) → f s k ≡ g s k
 agree f g e s k = same_alike (f s k) (g s k) (each (λ (s : State) (k : Kind). beq (f s k) (g s k)) e s k)
-
--- two tests of kinds that agree, and a request whose kind is told
-pub by_kind : {f g : Kind → Bool} → ((k : Kind) → f k ≡ g k) → (r : Request) (k : Kind) {b : Bool} → kind_of r ≡ k → b ≡ f k → b ≡ g (kind_of r)
-by_kind {g = g} same r k told e = e ∙ same k ∙ ap g (sym told)
 
 -- states of one rank are one
 ranked : ℕ → State
@@ -97,38 +93,6 @@ rank-of Defunct = refl
 
 pub same-state : (s r : State) → in_state s r ≡ true → s ≡ r
 same-state s r e = sym (rank-of s) ∙ ap ranked (eqb-true (rank s) (rank r) e) ∙ rank-of r
-
--- ---- what is handed over, request by request: document 01's list
-abbrev pub handed_in : State → Kind → Bool
-handed_in s HELLO = in_state s Connected
-handed_in s GOODBYE = false
-handed_in s RESET = false
-handed_in s RUN = in_state s Ready || in_transaction s
-handed_in s BEGIN = in_state s Ready
-handed_in s COMMIT = in_state s TxReady
-handed_in s ROLLBACK = in_state s TxReady
-handed_in s DISCARD = in_state s Streaming || in_state s TxStreaming
-handed_in s PULL = in_state s Streaming || in_state s TxStreaming
-
-pub hands : (s : State) (k : Kind) → handed_in s k ≡ hands_over s k
-unfolding hands_over all_states all_kinds
-hands = agree handed_in hands_over refl
-
--- ---- RUN fetches nothing
-run-fetching : (k : Kind) → not (is_kind k RUN && fetching k) ≡ true
-unfolding all_kinds
-run-fetching = each-kind (λ (k : Kind). not (is_kind k RUN && fetching k)) refl
-
-pub run-fetches : (r : Request) → is RUN r ≡ true → fetches r ≡ false
-run-fetches r e = sym (ap (λ (b : Bool). b && fetches r) e) ∙ not-no (is RUN r && fetches r) (run-fetching (kind_of r))
-
-run-beginning : (k : Kind) → not (is_kind k RUN && is_kind k BEGIN) ≡ true
-unfolding all_kinds
-run-beginning = each-kind (λ (k : Kind). not (is_kind k RUN && is_kind k BEGIN)) refl
-
--- and begins nothing
-pub run-begins : (r : Request) → is RUN r ≡ true → is BEGIN r ≡ false
-run-begins r e = sym (ap (λ (b : Bool). b && is BEGIN r) e) ∙ not-no (is RUN r && is BEGIN r) (run-beginning (kind_of r))
 
 -- ---- the states that follow
 -- two states that are the same for every state and kind that pass a test
@@ -177,7 +141,7 @@ pub after-batch : (s : State) (k : Kind) (left : ℕ) → hands_over s k ≡ tru
 after-batch s k left h f = by_left (eqb left 0)
   where
     by_left : (b : Bool) → cond b (cond (in_state s Streaming) Ready TxReady) s ≡ new_state s k (cond b last last-of-several)
-    by_left true = sym (after_last s k (and_both (hands_over s k) (fetching k) h f))
+    by_left true = sym (after_last s k (and_from (hands_over s k) (fetching k) h f))
     by_left false = sym (after-several s k)
 
 -- ---- what follows from a test, for every state and kind
@@ -187,27 +151,27 @@ follows h f e s k t = sym (ap (λ (b : Bool). not b || f s k) t) ∙ each (λ (s
 -- nothing is handed over in FAILED or INTERRUPTED
 pub hands-running : (s : State) (k : Kind) → hands_over s k ≡ true → is_stopped s ≡ false
 unfolding hands_over all_states all_kinds
-hands-running s k h = not-no _ (follows hands_over (λ (s : State) (k : Kind). not (is_stopped s)) refl s k h)
+hands-running s k h = not-true _ (follows hands_over (λ (s : State) (k : Kind). not (is_stopped s)) refl s k h)
 
 -- what is handed over is no RESET
 pub hands-calm : (s : State) (k : Kind) → hands_over s k ≡ true → is_kind k RESET ≡ false
 unfolding hands_over all_states all_kinds
-hands-calm s k h = not-no _ (follows hands_over (λ (s : State) (k : Kind). not (is_kind k RESET)) refl s k h)
+hands-calm s k h = not-true _ (follows hands_over (λ (s : State) (k : Kind). not (is_kind k RESET)) refl s k h)
 
 -- what is handed over is work, but for HELLO in CONNECTED
 pub hands-work : (s : State) (k : Kind) → hands_over s k ≡ true → in_state s Connected ≡ false → works k ≡ true
 unfolding hands_over works handed_somewhere all_states all_kinds
-hands-work s k h a = follows (λ (s : State) (k : Kind). hands_over s k && not (in_state s Connected)) (λ (s : State) (k : Kind). works k) refl s k (and_both (hands_over s k) (not (in_state s Connected)) h (ap not a))
+hands-work s k h a = follows (λ (s : State) (k : Kind). hands_over s k && not (in_state s Connected)) (λ (s : State) (k : Kind). works k) refl s k (and_from (hands_over s k) (not (in_state s Connected)) h (ap not a))
 
 -- work is no RESET
 pub works-calm : (k : Kind) → works k ≡ true → is_kind k RESET ≡ false
 unfolding hands_over works handed_somewhere all_states all_kinds
-works-calm k h = not-no _ (follows (λ (s : State) (k : Kind). works k) (λ (s : State) (k : Kind). not (is_kind k RESET)) refl Ready k h)
+works-calm k h = not-true _ (follows (λ (s : State) (k : Kind). works k) (λ (s : State) (k : Kind). not (is_kind k RESET)) refl Ready k h)
 
 -- a report does not interrupt
 pub new-calm : (s : State) (k : Kind) (r : Response) → hands_over s k ≡ true → in_state (new_state s k r) Interrupted ≡ false
 unfolding hands_over new_state all_states all_kinds
-new-calm s k r h = not-no _ (by-response r)
+new-calm s k r h = not-true _ (by-response r)
   where
     by-response : (r : Response) → not (in_state (new_state s k r) Interrupted) ≡ true
     by-response success = follows hands_over (λ (s : State) (k : Kind). not (in_state (new_state s k success) Interrupted)) refl s k h
@@ -222,16 +186,16 @@ pub run-streams : (s : State) (k : Kind) → hands_over s k ≡ true → (is_kin
 unfolding hands_over new_state all_states all_kinds
 run-streams s k h e =
     follows (λ (s : State) (k : Kind). hands_over s k && (is_kind k RUN && in_transaction s)) (λ (s : State) (k : Kind). in_state (new_state s k success) TxStreaming) refl s k
-    (and_both (hands_over s k) (is_kind k RUN && in_transaction s) h e)
+    (and_from (hands_over s k) (is_kind k RUN && in_transaction s) h e)
 
 -- any other success that fetches nothing comes from a state with no stream open, and leads to one
 pub rest-streams : (s : State) (k : Kind) → hands_over s k ≡ true → fetching k ≡ false → (is_kind k RUN && in_transaction s) ≡ false
     → (in_state (new_state s k success) TxStreaming || in_state s TxStreaming) ≡ false
 unfolding hands_over new_state all_states all_kinds
 rest-streams s k h f e =
-    not-no _ (follows (λ (s : State) (k : Kind). hands_over s k && (not (fetching k) && not (is_kind k RUN && in_transaction s)))
+    not-true _ (follows (λ (s : State) (k : Kind). hands_over s k && (not (fetching k) && not (is_kind k RUN && in_transaction s)))
     (λ (s : State) (k : Kind). not (in_state (new_state s k success) TxStreaming || in_state s TxStreaming)) refl s k
-    (and_both (hands_over s k) (not (fetching k) && not (is_kind k RUN && in_transaction s)) h (and_both (not (fetching k)) (not (is_kind k RUN && in_transaction s)) (ap not f) (ap not e))))
+    (and_from (hands_over s k) (not (fetching k) && not (is_kind k RUN && in_transaction s)) h (and_from (not (fetching k)) (not (is_kind k RUN && in_transaction s)) (ap not f) (ap not e))))
 
 -- ---- a stopped connection
 -- work is these six
@@ -251,8 +215,8 @@ ignored-stays = leaves (λ (s : State) (k : Kind). follow s k ignored (rows ++ a
 -- it hands nothing over, and is not closed
 pub stopped-hands : (s : State) (k : Kind) → is_stopped s ≡ true → hands_over s k ≡ false
 unfolding hands_over all_states all_kinds
-stopped-hands s k e = not-no _ (follows (λ (s : State) (k : Kind). is_stopped s) (λ (s : State) (k : Kind). not (hands_over s k)) refl s k e)
+stopped-hands s k e = not-true _ (follows (λ (s : State) (k : Kind). is_stopped s) (λ (s : State) (k : Kind). not (hands_over s k)) refl s k e)
 
 pub stopped-live : (s : State) → is_stopped s ≡ true → in_state s Defunct ≡ false
 unfolding all_states all_kinds
-stopped-live s e = not-no _ (follows (λ (s : State) (k : Kind). is_stopped s) (λ (s : State) (k : Kind). not (in_state s Defunct)) refl s RUN e)
+stopped-live s e = not-true _ (follows (λ (s : State) (k : Kind). is_stopped s) (λ (s : State) (k : Kind). not (in_state s Defunct)) refl s RUN e)

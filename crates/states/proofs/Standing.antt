@@ -1,12 +1,11 @@
 -- The standing rules by their parts, as the check comes to them. Assumes nothing.
-use mathlib.Core.Path.{◌≡◌, refl, sym, ap, ◌∙◌}
-use mathlib.Core.Bool.{Bool, true, false, cond, not, ◌&&◌, and-false}
+use mathlib.Core.Path.{◌≡◌, ap}
+use mathlib.Core.Bool.{Bool, true, false, cond, not, ◌&&◌}
 use mathlib.Core.List.{List}
-use Prim.Native.Nat.{ℕ, ◌+◌, ◌-◌, ◌<◌, ◌≤◌}
-use native.Mathlib.Omega.{arith}
+use Prim.Native.Nat.{ℕ, ◌+◌, ◌≤◌}
 use lib.Dec.{eqb, leb}
 use lib.ListN.{length}
-use borrow.Author.Tests.{le-leb, lt-leb, eq-eqb, ne_eqb, eqb-true, eqb-false}
+use borrow.Author.Tests.{le-leb}
 use Rattle.states.specs.declared.state.State.{State}
 use Rattle.states.specs.declared.state.State.TheVariants.{Interrupted, Defunct}
 use Rattle.states.specs.declared.request.Request.{Request}
@@ -14,7 +13,6 @@ use Rattle.states.specs.Requests.{in_state, kind_of, out_of_range, any}
 use Rattle.states.specs.Appendix.{works}
 use Rattle.states.specs.Table.{Open, Table, turn_of}
 use Rattle.states.specs.Rules.{waiting_rule, numbers_rule, open_rule, reset_rule, is_handed, may_be_in_flight, first_in_flight, flight_rule, counts_rule, state_rules, rules}
-use Rattle.states.proofs.Bools.{by-test}
 
 -- ---- the counts
 module _ (s : State) (waiting accepted sent : ℕ) where
@@ -22,31 +20,6 @@ module _ (s : State) (waiting accepted sent : ℕ) where
       → counts_rule s waiting accepted sent ≡ (m && cond d (eqb waiting 0 && leb sent accepted) (eqb accepted (sent + waiting)))
   unfolding counts_rule
   counts-by p q = λ i. p i && cond (q i) (eqb waiting 0 && leb sent accepted) (eqb accepted (sent + waiting))
-
-  pub counts-high : 4294967295 < accepted → counts_rule s waiting accepted sent ≡ false
-  counts-high h = counts-by (lt-leb accepted 4294967295 h) refl
-
-  pub counts-less : accepted ≤ 4294967295 → accepted < sent → counts_rule s waiting accepted sent ≡ false
-  counts-less h less =
-      counts-by (le-leb accepted 4294967295 h) refl
-      ∙ by-test (λ (b : Bool). b ≡ false) (in_state s Defunct)
-      (λ _. ap (λ (b : Bool). eqb waiting 0 && b) (lt-leb sent accepted less) ∙ and-false (eqb waiting 0))
-      (λ _. ne_eqb accepted (sent + waiting) (λ q. omega arith))
-
-  pub counts-defunct : accepted ≤ 4294967295 → sent ≤ accepted → in_state s Defunct ≡ true → counts_rule s waiting accepted sent ≡ eqb waiting 0
-  counts-defunct h most d =
-      counts-by (le-leb accepted 4294967295 h) d ∙ ap (λ (b : Bool). eqb waiting 0 && b) (le-leb sent accepted most) ∙ both (eqb waiting 0)
-    where
-      both : (b : Bool) → (b && true) ≡ b
-      both true = refl
-      both false = refl
-
-  pub counts-sum : accepted ≤ 4294967295 → sent ≤ accepted → in_state s Defunct ≡ false → counts_rule s waiting accepted sent ≡ eqb (accepted - sent) waiting
-  counts-sum h most d = counts-by (le-leb accepted 4294967295 h) d ∙ by_cases (eqb (accepted - sent) waiting) refl
-    where
-      by_cases : (b : Bool) → eqb (accepted - sent) waiting ≡ b → eqb accepted (sent + waiting) ≡ eqb (accepted - sent) waiting
-      by_cases true e = let same : accepted - sent ≡ waiting = eqb-true (accepted - sent) waiting e in eq-eqb accepted (sent + waiting) (omega arith) ∙ sym e
-      by_cases false e = let other : accepted - sent ≡ waiting → ⊥ = eqb-false (accepted - sent) waiting e in ne_eqb accepted (sent + waiting) (λ q. other (omega arith)) ∙ sym e
 
 -- ---- the one in flight
 module _ (s : State) (o : Open) (r : Request) where
@@ -59,9 +32,6 @@ module _ (s : State) (o : Open) (r : Request) where
   may-out e = ap (λ (b : Bool). cond b (works (kind_of r)) (is_handed (turn_of s o r))) e
 
 module _ (in_flight : Bool) (s : State) (o : Open) (ws : List Request) where
-  pub none-in-flight : in_flight ≡ false → flight_rule in_flight s o ws ≡ true
-  none-in-flight e = ap (λ (b : Bool). cond b (first_in_flight s o ws) true) e
-
   pub one-in-flight : in_flight ≡ true → flight_rule in_flight s o ws ≡ first_in_flight s o ws
   one-in-flight e = ap (λ (b : Bool). cond b (first_in_flight s o ws) true) e
 

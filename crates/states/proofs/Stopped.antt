@@ -19,7 +19,7 @@ use Rattle.states.specs.Table as T
 use Rattle.states.specs.Table.{Open, Table, Done, turn_of, counted, taken, take_first, step}
 use Rattle.states.specs.Events.{Event, said_by, left_by, run_t, events_t}
 use Rattle.states.specs.Stopped.{all_work, takes, all_ignored, passed, Stopped, Claim}
-use Rattle.states.proofs.Bools.{and_left, and_right}
+use Rattle.std.proofs.lemmas.Bool.{and_parts}
 use Rattle.states.proofs.Rows.{work-six, ignored-listed, ignored-stays, stopped-hands, stopped-live, works-calm}
 use Rattle.states.proofs.Turns.{ignores-by, turn_by}
 
@@ -40,10 +40,10 @@ module _ (t : Table) (r : Request) (rs behind : List Request) (s : Stopped t (r 
       ∙ ap (λ (u : Turn). returned (taken u t r (rs ++ behind))) turn
     where
       work : works (kind_of r) ≡ true
-      work = and_left (works (kind_of r)) (all_work rs) s.work
+      work = (and_parts (works (kind_of r)) (all_work rs) s.work).0
 
   stopped-next : Stopped next rs behind
-  stopped-next = record { stopped = s.stopped; none = refl; wait = refl; work = and_right (works (kind_of r)) (all_work rs) s.work }
+  stopped-next = record { stopped = s.stopped; none = refl; wait = refl; work = (and_parts (works (kind_of r)) (all_work rs) s.work).1 }
 
 ignoring : (t : Table) (first behind : List Request) → Stopped t first behind → map (λ (e : Event). e.answer) (events_t t (takes first)) ≡ all_ignored t.sent first
 ignoring t [] behind s = refl

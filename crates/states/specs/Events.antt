@@ -1,6 +1,5 @@
 -- A list of calls on the state table: what is seen of each, and what is counted. Document 01, demand 3. Assumes nothing.
-use Rattle.std.specs.Prelude.{ℕ, zero, suc, ◌+◌, Bool, true, ◌&&◌, ◌||◌, List, [], ◌∷◌, ◌++◌, ltb, leb, length, drop}
-use Rattle.std.proofs.Math.Option.{Option, none, some}
+use Rattle.std.specs.Prelude.{ℕ, zero, suc, ◌+◌, Bool, true, ◌&&◌, ◌||◌, List, [], ◌∷◌, ◌++◌, ltb, leb, length, drop, Option, None, Some}
 use Rattle.refusal.specs.Answer.{Answer, returned, refused}
 use Rattle.states.specs.declared.state.State.TheVariants.{Interrupted, Failed}
 use Rattle.states.specs.declared.request.Request.{Request}
@@ -53,17 +52,17 @@ pub record Numbered : Type 0 where
 
 -- the first of some requests, and the n-th, from 1
 abbrev pub first : List Request → Option Request
-first [] = none
-first (r ∷ rs) = some r
+first [] = None
+first (r ∷ rs) = Some r
 
 abbrev pub nth : ℕ → List Request → Option Request
-nth zero rs = none
+nth zero rs = None
 nth (suc n) rs = first (drop n rs)
 
 -- requests with their numbers, in order
 abbrev pub numbered : ℕ → List Request → List Numbered
 numbered n [] = []
-numbered n (r ∷ rs) = record { number = n; request = some r } ∷ numbered (n + 1) rs
+numbered n (r ∷ rs) = record { number = n; request = Some r } ∷ numbered (n + 1) rs
 
 -- each number, with the request that has this number among the requests rs
 abbrev pub looked_up : List Request → List Numbered → List Numbered
@@ -81,7 +80,7 @@ handed_by (refused number place) = []
 handed_by (returned T.queued) = []
 handed_by (returned T.closed) = []
 handed_by (returned T.idle) = []
-handed_by (returned (T.handed r number)) = record { number = number; request = some r } ∷ []
+handed_by (returned (T.handed r number)) = record { number = number; request = Some r } ∷ []
 handed_by (returned (T.answered summary number)) = []
 
 abbrev pub handed_over : List Event → List Numbered
@@ -95,16 +94,16 @@ awaited was (refused number place) = was
 awaited was (returned T.queued) = was
 awaited was (returned T.closed) = was
 awaited was (returned T.idle) = was
-awaited was (returned (T.handed r number)) = some r
-awaited was (returned (T.answered summary number)) = none
+awaited was (returned (T.handed r number)) = Some r
+awaited was (returned (T.answered summary number)) = None
 
 -- the request that a call's summary answers: the one that a take looked at, the first that waits before it; or the one that a report was for,
 -- which was handed over
 abbrev pub answered_by : Option Request → Table → Call → Option Request
-answered_by was before (T.arrive r) = none
+answered_by was before (T.arrive r) = None
 answered_by was before T.take = first before.waiting
 answered_by was before (T.report o) = was
-answered_by was before T.close = none
+answered_by was before T.close = None
 
 -- a summary's number, with the request that it answers
 abbrev pub summary_by : Option Request → Answer Said → List Numbered
@@ -121,7 +120,7 @@ summaries_from was [] = []
 summaries_from was (e ∷ es) = summary_by (answered_by was e.before e.call) e.answer ++ summaries_from (awaited was e.answer) es
 
 abbrev pub summaries : List Event → List Numbered
-summaries es = summaries_from none es
+summaries es = summaries_from None es
 
 -- ---- a request handed over by a take in FAILED or INTERRUPTED
 abbrev pub wrongly_handed : Event → Bool

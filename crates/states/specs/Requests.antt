@@ -1,12 +1,11 @@
 -- What a state and a request are, apart from the record: names, tests, and the ranges of n and qid. Document 01, "Requests"; 003's names.
 -- Assumes nothing.
-use Rattle.std.specs.Prelude.{ℕ, ◌-◌, Bool, true, false, not, ◌&&◌, ◌||◌, List, [], ◌∷◌, eqb, ℤ, pos, negsuc}
+use Rattle.std.specs.Prelude.{ℕ, ◌-◌, Bool, true, false, not, ◌&&◌, ◌||◌, List, eqb, ℤ, pos, negsuc, Option, Some, None}
+use Rattle.std.specs.List.{list_any}
 use Rattle.states.specs.declared.state.State.{State}
 use Rattle.states.specs.declared.state.State.TheVariants.{Connected, Ready, Streaming, TxReady, TxStreaming, Failed, Interrupted, Defunct}
 use Rattle.states.specs.declared.request.Request.{Request}
 use Rattle.states.specs.declared.request.Request.TheVariants.{Hello, Goodbye, Reset, Run, Begin, Commit, Rollback, Discard, Pull}
-use Rattle.states.specs.declared.request.Asked.{Asked}
-use Rattle.states.specs.declared.request.Asked.TheVariants.{Latest, Stream}
 use Rattle.bolt.specs.Requests.{Kind, HELLO, GOODBYE, RESET, RUN, BEGIN, COMMIT, ROLLBACK, DISCARD, PULL, tag}
 use Rattle.bolt.specs.Ranges.{minus_one_or}
 
@@ -78,33 +77,32 @@ in_range (Pull n qid) = minus_one_or 1 n && minus_one_or 0 qid
 abbrev pub out_of_range : Request → Bool
 out_of_range r = not (in_range r)
 
--- the stream that a qid names: -1 means the latest successful RUN of this transaction
-abbrev pub asked_by : ℤ → Asked
-asked_by (pos q) = Stream q
-asked_by (negsuc q) = Latest
+-- the stream that a qid names: none for -1, which means the latest successful RUN of this transaction
+abbrev pub asked_by : ℤ → Option ℕ
+asked_by (pos q) = Some q
+asked_by (negsuc q) = None
 
 -- the stream that DISCARD or PULL is for
-abbrev pub asked : Request → Asked
-asked Hello = Latest
-asked Goodbye = Latest
-asked Reset = Latest
-asked Run = Latest
-asked Begin = Latest
-asked Commit = Latest
-asked Rollback = Latest
+abbrev pub asked : Request → Option ℕ
+asked Hello = None
+asked Goodbye = None
+asked Reset = None
+asked Run = None
+asked Begin = None
+asked Commit = None
+asked Rollback = None
 asked (Discard n qid) = asked_by qid
 asked (Pull n qid) = asked_by qid
 
-abbrev pub is_latest : Asked → Bool
-is_latest Latest = true
-is_latest (Stream q) = false
+abbrev pub is_latest : Option ℕ → Bool
+is_latest None = true
+is_latest (Some q) = false
 
 -- its number, by the number that the next stream gets
-abbrev pub named : Asked → ℕ → ℕ
-named Latest next = next - 1
-named (Stream q) next = q
+abbrev pub named : Option ℕ → ℕ → ℕ
+named None next = next - 1
+named (Some q) next = q
 
 -- one of a list passes a test
 abbrev pub any : {A : Type 0} → (A → Bool) → List A → Bool
-any f [] = false
-any f (x ∷ xs) = f x || any f xs
+any f xs = list_any f xs

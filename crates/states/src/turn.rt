@@ -6,10 +6,9 @@ ghost use Rattle.states.specs.Appendix.{hands_over, works};
 ghost use Rattle.states.specs.Table.{ignores};
 
 use super::request::Request;
-use super::state;
 use super::state::State;
 
-#[derive(Clone, Copy)]
+#[derive(Clone, Copy, Debug, PartialEq, Eq)]
 pub enum Turn {
     // The connection closes, with no summary.
     Closes,
@@ -25,42 +24,32 @@ pub enum Turn {
 }
 
 // Whether a request is handed to the engine in a state.
+#[tactic(auto, unfolding(crate::specs::Appendix::hands_over))]
 pub fn hands_over(state: State, request: Request) -> bool
     ensures { result ≡ hands_over state (kind_of request) }
 {
     match request {
-        Request::Hello => state::is_in(state, State::Connected),
-        Request::Goodbye => false,
-        Request::Reset => false,
-        Request::Run => state::runs(state),
-        Request::Begin => state::is_in(state, State::Ready),
-        Request::Commit => state::is_in(state, State::TxReady),
-        Request::Rollback => state::is_in(state, State::TxReady),
-        Request::Discard { n: _, qid: _ } => state::is_streaming(state),
-        Request::Pull { n: _, qid: _ } => state::is_streaming(state),
+        Request::Hello => state == State::Connected,
+        Request::Goodbye | Request::Reset => false,
+        Request::Run => state.runs(),
+        Request::Begin => state == State::Ready,
+        Request::Commit | Request::Rollback => state == State::TxReady,
+        Request::Discard { .. } | Request::Pull { .. } => state.is_streaming(),
     }
 }
 
 // Whether a request is of a kind that some state hands over, except HELLO.
+#[tactic(auto, unfolding(crate::specs::Appendix::hands_over, crate::specs::Appendix::handed_somewhere, crate::specs::Appendix::works))]
 pub fn is_work(request: Request) -> bool
     ensures { result ≡ works (kind_of request) }
 {
-    match request {
-        Request::Hello => false,
-        Request::Goodbye => false,
-        Request::Reset => false,
-        Request::Run => true,
-        Request::Begin => true,
-        Request::Commit => true,
-        Request::Rollback => true,
-        Request::Discard { n: _, qid: _ } => true,
-        Request::Pull { n: _, qid: _ } => true,
-    }
+    !matches!(request, Request::Hello | Request::Goodbye | Request::Reset)
 }
 
 // A stopped connection ignores work.
+#[tactic(auto, unfolding(crate::specs::Table::ignores))]
 pub fn is_ignored(state: State, request: Request) -> bool
     ensures { result ≡ ignores state (kind_of request) }
 {
-    state::is_stopped(state) && is_work(request)
+    state.is_stopped() && is_work(request)
 }

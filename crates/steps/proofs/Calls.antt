@@ -1,67 +1,86 @@
--- The calls by the tests that each makes first. Assumes nothing.
-use mathlib.Core.Path.{◌≡◌, sym, ap, ◌∙◌}
+-- The calls by what each asks of a record first, and by the tests that it makes then. Assumes nothing.
+use mathlib.Core.Path.{◌≡◌, refl, sym, ap, ◌∙◌, subst}
 use mathlib.Core.Bool.{Bool, true, false, cond}
-use lib.Dec.{leb}
-use lib.ListN.{length}
+use Prim.Native.Nat.{ℕ}
+use denote.Enum.Bare.{sameb, same_true, true_same}
+use borrow.Author.Tests.{eq-eqb}
+use Rattle.std.proofs.Common.{rules}
 use Rattle.refusal.specs.Answer.{Answer, returned, refused}
 use Rattle.states.specs.declared.state.State.{State}
 use Rattle.states.specs.declared.state.State.TheVariants.{Defunct}
+use Rattle.states.specs.contracts.state.State as state-type
 use Rattle.states.specs.declared.request.Request.{Request}
-use Rattle.states.specs.declared.answers.Outcome.{Outcome}
-use Rattle.states.specs.Requests.{in_state, in_range}
-use Rattle.states.specs.Table.{Table, Done, idle, unless_defunct, accept, take_first, report_first}
-use Rattle.record.specs.declared.record.Control.{Control}
+use Rattle.states.specs.declared.request.Request.TheVariants.{Hello, Goodbye, Reset, Run, Begin, Commit, Rollback, Discard, Pull}
+use Rattle.bolt.specs.Requests.{RESET}
+use Rattle.states.specs.Requests.{rank, in_state, is}
+use Rattle.states.specs.Table.{Done, unless_defunct}
+use Rattle.states.proofs.Bools.{by-test}
+use Rattle.states.proofs.Rows.{same-state}
 use Rattle.record.specs.declared.record.Connection.{Connection}
 use Rattle.record.specs.Record.{state_in, kept, keeps_rules}
-use Rattle.record.specs.Calls.{Storing, storing, carried, called, arrive_of}
+use Rattle.record.specs.Calls.{After, Storing, carried, called}
+use Rattle.steps.specs.Opening.{opening_of}
 
--- ---- what the check of the rules told, and a test of the state
-module _ (c : Connection) {r : Bool} (told : r ≡ keeps_rules c) where
-  pub breaks : r ≡ false → keeps_rules c ≡ false
-  breaks t = sym told ∙ t
-
-  pub keeps : r ≡ true → keeps_rules c ≡ true
-  keeps t = sym told ∙ t
-
-pub state-test : (k : Control) (q : State) {s : State} {r b : Bool} → s ≡ state_in k → r ≡ in_state s q → r ≡ b → in_state (state_in k) q ≡ b
-state-test k q p e t = ap (λ (s : State). in_state s q) (sym p) ∙ sym e ∙ t
-
--- ---- 24, then 18
+-- ---- a call by its opening: it is refused, or goes on
 module _ (f : Storing) (c : Connection) (a : Answer Done) where
-  pub broken : keeps_rules c ≡ false → record { connection = c; answer = refused 24 0 } ≡ called f c a
-  broken e = sym (ap (λ (b : Bool). cond b (carried f c a) (record { connection = c; answer = refused 24 0 })) e)
+  abbrev from : Answer State → After
+  from (returned s) = carried f c a
+  from (refused number place) = record { connection = c; answer = refused number place }
 
-  pub standing : keeps_rules c ≡ true → carried f c a ≡ called f c a
-  standing e = sym (ap (λ (b : Bool). cond b (carried f c a) (record { connection = c; answer = refused 24 0 })) e)
+  opens : from (opening_of c) ≡ called f c (unless_defunct (kept c) a)
+  opens = by (keeps_rules c) (in_state (state_in c.control) Defunct)
+    where
+      by : (k d : Bool) → from (cond k (cond d (refused 18 0) (returned (state_in c.control))) (refused 24 0))
+          ≡ cond k (carried f c (cond d (refused 18 0) a)) (record { connection = c; answer = refused 24 0 })
+      by true true = refl
+      by true false = refl
+      by false d = refl
 
-module _ (t : Table) (a : Answer Done) where
-  pub at-end : in_state t.state Defunct ≡ true → refused 18 0 ≡ unless_defunct t a
-  at-end e = sym (ap (λ (b : Bool). cond b (refused 18 0) a) e)
+  pub refuses : {number place : ℕ} → refused number place ≡ opening_of c → record { connection = c; answer = refused number place } ≡ called f c (unless_defunct (kept c) a)
+  refuses e = ap from e ∙ opens
 
-  pub alive : in_state t.state Defunct ≡ false → a ≡ unless_defunct t a
-  alive e = sym (ap (λ (b : Bool). cond b (refused 18 0) a) e)
+  pub goes_on : {s : State} → returned s ≡ opening_of c → carried f c a ≡ called f c (unless_defunct (kept c) a)
+  goes_on e = ap from e ∙ opens
 
-module _ (f : Storing) (c : Connection) (a : Answer Done) (ruled : keeps_rules c ≡ true) where
-  pub refuse-defunct : in_state (state_in c.control) Defunct ≡ true → record { connection = c; answer = refused 18 0 } ≡ called f c (unless_defunct (kept c) a)
-  refuse-defunct d = ap (carried f c) (at-end (kept c) a d) ∙ standing f c (unless_defunct (kept c) a) ruled
+-- ---- what is known of the record where it goes on
+pub record Found (c : Connection) (s : State) : Type 0 where
+  pub keeps : keeps_rules c ≡ true
+  pub alive : in_state (state_in c.control) Defunct ≡ false
+  pub state : s ≡ state_in c.control
 
-  -- the call goes on
-  pub go_on : in_state (state_in c.control) Defunct ≡ false → carried f c a ≡ called f c (unless_defunct (kept c) a)
-  go_on d = ap (carried f c) (alive (kept c) a d) ∙ standing f c (unless_defunct (kept c) a) ruled
+module _ (c : Connection) where
+  abbrev Finds : Answer State → Type 0
+  Finds (returned s) = Found c s
+  Finds (refused number place) = Unit {0}
 
--- ---- arrive
-pub arrive-by : (t : Table) (r : Request) {a b d : Bool} → in_range r ≡ a → leb 4294967295 t.accepted ≡ b → leb 32 (length t.waiting) ≡ d
-    → cond a (cond b (refused 20 0) (cond d (refused 17 0) (returned (accept t r)))) (refused 27 0)
-    ≡ cond (in_range r) (cond (leb 4294967295 t.accepted) (refused 20 0) (cond (leb 32 (length t.waiting)) (refused 17 0) (returned (accept t r)))) (refused 27 0)
-arrive-by t r p q u = sym (λ i. cond (p i) (cond (q i) (refused 20 0) (cond (u i) (refused 17 0) (returned (accept t r)))) (refused 27 0))
+  finds : Finds (opening_of c)
+  finds = by-test Finds (keeps_rules c) (λ k. by-test Finds (in_state (state_in c.control) Defunct) (λ _. tt) (λ d. record { keeps = k; alive = d; state = refl })) (λ _. tt)
 
-pub arrive-ended : (c : Connection) (r : Request) → keeps_rules c ≡ true → in_state (state_in c.control) Defunct ≡ true → record { connection = c; answer = refused 18 0 } ≡ arrive_of c r
-arrive-ended c r = refuse-defunct (storing r) c _
+  pub found : {s : State} → returned s ≡ opening_of c → Found c s
+  found e = subst Finds (sym e) finds
 
--- ---- take
-pub take_by : (t : Table) {b : Bool} → t.in_flight ≡ b → ◌≡◌ {A = Answer Done} (returned (cond b (record { table = t; said = idle }) (take_first t t.waiting))) (returned (cond t.in_flight (record { table = t; said = idle }) (take_first t t.waiting)))
-take_by t p = sym (λ i. returned (cond (p i) (record { table = t; said = idle }) (take_first t t.waiting)))
+-- ---- tests of a state, and of a request
+same-test : (s q : State) → sameb state-type.the_type s q ≡ in_state s q
+same-test s q =
+    by (sameb state-type.the_type s q) (in_state s q) (λ e. eq-eqb (rank s) (rank q) (ap rank (same_true state-type.the_type (search rules) s q e)))
+    (λ e. true_same state-type.the_type s q (same-state s q e))
+  where
+    by : (a b : Bool) → (a ≡ true → b ≡ true) → (b ≡ true → a ≡ true) → a ≡ b
+    by true true f g = refl
+    by true false f g = sym (f refl)
+    by false true f g = g refl
+    by false false f g = refl
 
--- ---- report
-pub report-by : (t : Table) (o : Outcome) {b : Bool} → t.in_flight ≡ b → cond b (report_first o t t.waiting) (refused 19 0) ≡ cond t.in_flight (report_first o t t.waiting) (refused 19 0)
-report-by t o p = sym (λ i. cond (p i) (report_first o t t.waiting) (refused 19 0))
+pub state-test : (s q : State) {b : Bool} → b ≡ sameb state-type.the_type s q → in_state s q ≡ b
+state-test s q e = sym (e ∙ same-test s q)
+
+pub no-reset : (r : Request) → (r ≡ Reset → ⊥) → is RESET r ≡ false
+no-reset Hello f = refl
+no-reset Goodbye f = refl
+no-reset Reset f = absurd (f refl)
+no-reset Run f = refl
+no-reset Begin f = refl
+no-reset Commit f = refl
+no-reset Rollback f = refl
+no-reset (Discard n qid) f = refl
+no-reset (Pull n qid) f = refl

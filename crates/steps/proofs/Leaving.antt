@@ -4,222 +4,189 @@ use mathlib.Core.Bool.{Bool, true, false, cond}
 use mathlib.Core.List.{List, map}
 use Prim.Native.Nat.{ℕ, ◌-◌, ◌+◌, ◌<◌, ◌≤◌}
 use lib.Dec.{leb}
-use lib.IntN.{ℤ}
-use lib.ListN.{length, set}
+use lib.ListN.{length}
 use borrow.Author.Tests.{eq-eqb, ne_eqb, le-leb, lt-leb}
-use Rattle.refusal.specs.Answer.{returned, refused}
-use Rattle.bolt.specs.Requests.{tag, RESET}
+use Rattle.refusal.specs.Answer.{Answer, returned, refused}
+use Rattle.bolt.specs.Requests.{RESET}
 use Rattle.states.specs.declared.state.State.{State}
-use Rattle.states.specs.declared.state.State.TheVariants.{Connected, Ready, Failed, Interrupted, Defunct}
+use Rattle.states.specs.declared.state.State.TheVariants.{Connected, Ready, Failed, Interrupted}
 use Rattle.states.specs.declared.request.Request.{Request}
-use Rattle.states.specs.declared.answers.Arrival.TheVariants as Arrival
-use Rattle.states.specs.declared.answers.Taken.TheVariants as Taken
-use Rattle.states.specs.declared.answers.Closing.TheVariants as Closing
 use Rattle.states.specs.declared.answers.Failure.TheVariants.{StreamsFull, StreamUnknown}
 use Rattle.states.specs.declared.answers.Summary.{Summary}
 use Rattle.states.specs.declared.answers.Summary.TheVariants as S
 use Rattle.states.specs.declared.turn.Turn.{Turn}
 use Rattle.states.specs.declared.turn.Turn.TheVariants as U
-use Rattle.states.specs.Requests.{kind_of, in_state, in_range, is, any}
-use Rattle.states.specs.Table.{Table, Done, queued, closed, idle, handed, answered, none_open, defunct, enqueued, accept, number_after, answer, taken, take_first, turn_of}
+use Rattle.states.specs.Requests.{in_state, in_range, is, any}
+use Rattle.states.specs.Table.{Done, queued, closed, idle, handed, answered, none_open, defunct, enqueued, accept, number_after, answer, taken, take_first, turn_of}
 use Rattle.record.specs.declared.record.Control.{Control}
 use Rattle.record.specs.declared.record.Connection.{Connection}
-use Rattle.record.specs.Names.{count_of, qid_of}
 use Rattle.record.specs.Ring.{place, behind, lined, kind_at, place_at, request_in, is_reset}
-use Rattle.record.specs.Record.{joined, state_in, is_in_flight, open_in, waiting_in, kept, keeps_rules}
-use Rattle.record.specs.Calls.{After, storing, nowhere, carried, arrive_of, take_of, close_of}
+use Rattle.record.specs.Record.{joined, state_in, is_in_flight, open_in, waiting_in, kept}
+use Rattle.record.specs.Calls.{After, holding, storing, nowhere, carried, arrive_of, take_of, close_of}
 use Rattle.record.proofs.Keeping.{Bounds, bounds, behind_first, first_in, size, behind-size, first-waits, opened-own, streams-own, idles, put-answered, put-handed, put-defunct, put-enqueued}
 use Rattle.record.proofs.Places.{resets-by-kind, resets-in-kinds}
 use Rattle.record.proofs.Standing.{kept-bounds}
-use Rattle.steps.specs.declared.after.AfterArrive.{AfterArrive}
-use Rattle.steps.specs.declared.after.AfterTake.{AfterTake}
-use Rattle.steps.specs.declared.after.AfterClose.{AfterClose}
-use Rattle.steps.specs.Steps.{told_arrive, told_take, told_close}
+use Rattle.steps.specs.Opening.{opening_of}
 use Rattle.steps.specs.Private.Changes.{Answering, Accepting, defunct_in, counted_in, answered_in, handed_in}
-use Rattle.steps.proofs.Calls.{state-test, go_on, arrive-by, take_by}
+use Rattle.steps.proofs.Calls.{goes_on, found}
 
 module _ (c : Connection) where
   abbrev k : Control
   k = c.control
 
   abbrev with : Control → Connection
-  with x = joined x c.streams c.kinds c.counts c.qids
+  with x = joined x c.streams c.queue
 
   abbrev waiting : List Request
-  waiting = waiting_in k c.kinds c.counts c.qids
+  waiting = waiting_in k c.queue
 
-  -- ---- the record keeps the rules, and is not DEFUNCT
-  module _ (keeps : keeps_rules c ≡ true) (long : length c.streams ≡ 8) (alive : in_state (state_in k) Defunct ≡ false) where
-    -- it is closed
-    pub ends : {x : Control} {a : AfterClose} → x ≡ defunct_in k → a ≡ record { control = x; answer = Closing.Closed } → told_close a c.streams c.kinds c.counts c.qids ≡ close_of c
-    ends p e =
-        ap (λ (a : AfterClose). told_close a c.streams c.kinds c.counts c.qids) e ∙ ap (λ (x : Control). record { connection = with x; answer = returned closed }) p
-        ∙ ap (λ (x : Connection). record { connection = x; answer = returned closed }) (put-defunct k c.streams c.kinds c.counts c.qids (kept-bounds c keeps) long (kept c) refl refl)
-        ∙ go_on nowhere c (returned (record { table = defunct (kept c); said = closed })) keeps alive
+  -- ---- the call goes on
+  module _ {s : State} (opens : returned s ≡ opening_of c) (long : length c.streams ≡ 8) where
+    within : Bounds k
+    within = kept-bounds c (found c opens).keeps
 
-    by-flight : {b : Bool} → is_in_flight k ≡ b → carried nowhere c (returned (cond b (record { table = kept c; said = idle }) (take_first (kept c) waiting))) ≡ take_of c
-    by-flight p = ap (carried nowhere c) (take_by (kept c) p) ∙ go_on nowhere c (returned (cond (is_in_flight k) (record { table = kept c; said = idle }) (take_first (kept c) waiting))) keeps alive
+    -- the connection is closed
+    pub ends : record { connection = with (defunct_in k); answer = returned closed } ≡ close_of c
+    ends =
+        ap (λ (x : Connection). record { connection = x; answer = returned closed }) (put-defunct k c.streams c.queue within long (kept c) refl refl)
+        ∙ goes_on nowhere c (returned (record { table = defunct (kept c); said = closed })) opens
 
-    -- one is in flight
+    -- by whether one is in flight
+    abbrev taking : Bool → Answer Done
+    taking b = returned (cond b (record { table = kept c; said = idle }) (take_first (kept c) waiting))
+
+    by-flight : {b : Bool} → is_in_flight k ≡ b → carried nowhere c (taking b) ≡ take_of c
+    by-flight p = ap (λ (b : Bool). carried nowhere c (taking b)) (sym p) ∙ goes_on nowhere c (taking (is_in_flight k)) opens
+
     pub stays-in-flight : k.in_flight ≡ 1 → record { connection = c; answer = returned idle } ≡ take_of c
-    stays-in-flight e = idles k c.streams c.kinds c.counts c.qids (kept-bounds c keeps) long ∙ by-flight (eq-eqb k.in_flight 1 e)
+    stays-in-flight e = idles k c.streams c.queue within long ∙ by-flight (eq-eqb k.in_flight 1 e)
 
     -- none is: the turn of the first
-    pub comes-to-turn : (k.in_flight ≡ 1 → ⊥) → {a : After} → a ≡ carried nowhere c (returned (take_first (kept c) waiting)) → a ≡ take_of c
-    comes-to-turn e p = p ∙ by-flight (ne_eqb k.in_flight 1 e)
+    pub comes-to-turn : (k.in_flight ≡ 1 → ⊥) → carried nowhere c (returned (take_first (kept c) waiting)) ≡ take_of c
+    comes-to-turn e = by-flight (ne_eqb k.in_flight 1 e)
 
     -- and none waits
     pub stays-empty : (k.in_flight ≡ 1 → ⊥) → k.waiting ≡ 0 → record { connection = c; answer = returned idle } ≡ take_of c
     stays-empty e z =
-        comes-to-turn e
-        (idles k c.streams c.kinds c.counts c.qids (kept-bounds c keeps) long
-        ∙ ap (λ (n : ℕ). carried nowhere c (returned (take_first (kept c) (map request_in (lined (place_at c.kinds c.counts c.qids) k.first n))))) (sym z))
+        idles k c.streams c.queue within long
+        ∙ ap (λ (n : ℕ). carried nowhere c (returned (take_first (kept c) (map request_in (lined (place_at c.queue) k.first n))))) (sym z)
+        ∙ comes-to-turn e
 
     -- a request has come
-    module _ (q : Request) {y : Bool} (told : y ≡ in_range q) where
-      by-arrival : {x v f : Bool} → y ≡ x → leb 4294967295 k.accepted ≡ v → leb 32 k.waiting ≡ f
-          → carried (storing q) c (cond x (cond v (refused 20 0) (cond f (refused 17 0) (returned (accept (kept c) q)))) (refused 27 0)) ≡ arrive_of c q
-      by-arrival e p u =
-          ap (carried (storing q) c) (arrive-by (kept c) q (sym told ∙ e) p (ap (leb 32) (size k c.streams c.kinds c.counts c.qids) ∙ u))
-          ∙ go_on (storing q) c (cond (in_range q) (cond (leb 4294967295 k.accepted) (refused 20 0) (cond (leb 32 (length waiting)) (refused 17 0) (returned (accept (kept c) q)))) (refused 27 0)) keeps alive
+    module _ (q : Request) where
+      abbrev arriving : Bool → Bool → Bool → Answer Done
+      arriving x v f = cond x (cond v (refused 20 0) (cond f (refused 17 0) (returned (accept (kept c) q)))) (refused 27 0)
 
-      pub out_of_range_lem : y ≡ false → record { connection = c; answer = refused 27 0 } ≡ arrive_of c q
+      by-arrival : {x v f : Bool} → in_range q ≡ x → leb 4294967295 k.accepted ≡ v → leb 32 k.waiting ≡ f → carried (storing q) c (arriving x v f) ≡ arrive_of c q
+      by-arrival e p u =
+          sym (λ i. carried (storing q) c (arriving (e i) (p i) ((ap (leb 32) (size k c.streams c.queue) ∙ u) i)))
+          ∙ goes_on (storing q) c (arriving (in_range q) (leb 4294967295 k.accepted) (leb 32 (length waiting))) opens
+
+      pub out_of_range_lem : in_range q ≡ false → record { connection = c; answer = refused 27 0 } ≡ arrive_of c q
       out_of_range_lem e = by-arrival e refl refl
 
-      module _ (e : y ≡ true) where
+      module _ (e : in_range q ≡ true) where
         pub at-limit : 4294967295 ≤ k.accepted → record { connection = c; answer = refused 20 0 } ≡ arrive_of c q
         at-limit p = by-arrival e (le-leb 4294967295 k.accepted p) refl
 
-        pub queue-full : k.accepted < 4294967295 → 32 ≤ k.waiting → record { connection = c; answer = refused 17 0 } ≡ arrive_of c q
-        queue-full p u = by-arrival e (lt-leb 4294967295 k.accepted p) (le-leb 32 k.waiting u)
+        module _ (p : k.accepted < 4294967295) where
+          pub queue-full : 32 ≤ k.waiting → record { connection = c; answer = refused 17 0 } ≡ arrive_of c q
+          queue-full u = by-arrival e (lt-leb 4294967295 k.accepted p) (le-leb 32 k.waiting u)
 
-        pub comes-in : k.accepted < 4294967295 → k.waiting < 32 → {a : After} → a ≡ carried (storing q) c (returned (accept (kept c) q)) → a ≡ arrive_of c q
-        comes-in p u g = g ∙ by-arrival e (lt-leb 4294967295 k.accepted p) (lt-leb 32 k.waiting u)
+          pub comes-in : k.waiting < 32 → carried (storing q) c (returned (accept (kept c) q)) ≡ arrive_of c q
+          comes-in u = by-arrival e (lt-leb 4294967295 k.accepted p) (lt-leb 32 k.waiting u)
 
   -- ---- the turn of the first
   abbrev r : Request
-  r = first_in k c.streams c.kinds c.counts c.qids
+  r = first_in k c.streams c.queue
 
   abbrev ws : List Request
-  ws = behind_first k c.streams c.kinds c.counts c.qids
+  ws = behind_first k c.streams c.queue
 
   abbrev gives : Done → After
   gives d = carried nowhere c (returned d)
 
-  abbrev says : AfterTake → After
-  says a = told_take a c.streams c.kinds c.counts c.qids
-
   abbrev took : After
   took = gives (take_first (kept c) waiting)
 
-  -- what was told of the state, of the first and of its turn
-  pub record Turned (s : State) (q : Request) (t : Turn) : Type 0 where
-    pub may : Answering k × (length c.streams ≡ 8)
-    pub state : s ≡ state_in k
-    pub first : q ≡ r
-    pub turn : t ≡ turn_of s (open_in k c.streams) q
+  module _ (may : Answering k) (long : length c.streams ≡ 8) {s : State} {q : Request} (state : s ≡ state_in k) (first : q ≡ r) where
+    bound : Bounds k
+    bound = bounds k may.bounds
 
-  module _ {s : State} {q : Request} {t : Turn} (told : Turned s q t) where
-    within : Bounds k
-    within = bounds k told.may.0.bounds
-
-    by_turn : (u : Turn) → t ≡ u → gives (taken u (kept c) r ws) ≡ took
-    by_turn u e =
-        ap gives (sym (ap (take_first (kept c)) (first-waits k c.streams c.kinds c.counts c.qids told.may.0.some)
-        ∙ ap (λ (u : Turn). taken u (kept c) r ws) ((λ i. turn_of (sym told.state i) (open_in k c.streams) (sym told.first i)) ∙ sym told.turn ∙ e)))
+    by_turn : {u : Turn} → u ≡ turn_of s (open_in k c.streams) q → gives (taken u (kept c) r ws) ≡ took
+    by_turn e =
+        ap gives
+        (ap (λ (u : Turn). taken u (kept c) r ws) (e ∙ (λ i. turn_of (state i) (open_in k c.streams) (first i)))
+        ∙ sym (ap (take_first (kept c)) (first-waits k c.streams c.queue may.some)))
 
     -- it closes
-    pub turn-closes : t ≡ U.Closes → {x : Control} {a : AfterTake} → x ≡ defunct_in k → a ≡ record { control = x; answer = Taken.Closed } → says a ≡ took
-    turn-closes u p e =
-        ap says e ∙ ap (λ (x : Control). record { connection = with x; answer = returned closed }) p
-        ∙ ap (λ (x : Connection). record { connection = x; answer = returned closed }) (put-defunct k c.streams c.kinds c.counts c.qids within told.may.1 (kept c) refl refl)
-        ∙ by_turn U.Closes u
-
-    -- it is answered, with no stream open
-    clears : (s : State) (m : Summary) {a : AfterTake} → a ≡ record { control = answered_in k s 0 k.next (k.waiting - 1); answer = Taken.Answered (number_after k.sent) m }
-        → says a ≡ gives (answer (kept c) s (none_open (open_in k c.streams)) ws m)
-    clears s m e =
-        ap says e
-        ∙ put-answered k c.streams c.kinds c.counts c.qids within told.may.1 s (none_open (open_in k c.streams)) c.streams ws m refl refl refl
-        (sym (behind-size k c.streams c.kinds c.counts c.qids))
-
-    pub turn-resets : t ≡ U.Resets → (x : Bool) {at : ℕ} {y : Bool} → at ≡ behind k.first → y ≡ any is_reset (lined (kind_at c.kinds) at (k.waiting - 1)) → y ≡ x
-        → {a : AfterTake} → a ≡ record { control = answered_in k (cond x Interrupted Ready) 0 k.next (k.waiting - 1); answer = Taken.Answered (number_after k.sent) S.Success } → says a ≡ took
-    turn-resets u x p f g e =
-        let more : any (is RESET) ws ≡ x =
-        resets-by-kind (lined (place_at c.kinds c.counts c.qids) (behind k.first) (k.waiting - 1))
-        ∙ resets-in-kinds c.kinds c.counts c.qids (behind k.first) (k.waiting - 1)
-        ∙ ap (λ (at : ℕ). any is_reset (lined (kind_at c.kinds) at (k.waiting - 1))) (sym p) ∙ sym f ∙ g in
-        clears (cond x Interrupted Ready) S.Success e ∙ ap (λ (b : Bool). gives (answer (kept c) (cond b Interrupted Ready) (none_open (open_in k c.streams)) ws S.Success)) (sym more) ∙ by_turn U.Resets u
-
-    pub turn-full : t ≡ U.Full → {a : AfterTake} → a ≡ record { control = answered_in k Failed 0 k.next (k.waiting - 1); answer = Taken.Answered (number_after k.sent) (S.Failure StreamsFull) } → says a ≡ took
-    turn-full u e = clears Failed (S.Failure StreamsFull) e ∙ by_turn U.Full u
-
-    pub turn-unknown : t ≡ U.Unknown → {a : AfterTake} → a ≡ record { control = answered_in k Failed 0 k.next (k.waiting - 1); answer = Taken.Answered (number_after k.sent) (S.Failure StreamUnknown) } → says a ≡ took
-    turn-unknown u e = clears Failed (S.Failure StreamUnknown) e ∙ by_turn U.Unknown u
-
-    -- it is ignored: the state and the streams stay
-    pub turn-ignored : t ≡ U.Ignored → {a : AfterTake} → a ≡ record { control = answered_in k s k.opened k.next (k.waiting - 1); answer = Taken.Answered (number_after k.sent) S.Ignored } → says a ≡ took
-    turn-ignored u e =
-        ap says e ∙ ap (λ (s : State). record { connection = with (answered_in k s k.opened k.next (k.waiting - 1)); answer = returned (answered S.Ignored (number_after k.sent)) }) told.state
-        ∙ put-answered k c.streams c.kinds c.counts c.qids within told.may.1 (state_in k) (open_in k c.streams) c.streams ws S.Ignored
-        (sym (opened-own k c.streams c.kinds c.counts c.qids within told.may.1)) refl (sym (streams-own k c.streams c.kinds c.counts c.qids within told.may.1))
-        (sym (behind-size k c.streams c.kinds c.counts c.qids))
-        ∙ by_turn U.Ignored u
+    pub turn-closes : U.Closes ≡ turn_of s (open_in k c.streams) q → record { connection = with (defunct_in k); answer = returned closed } ≡ took
+    turn-closes u = ap (λ (x : Connection). record { connection = x; answer = returned closed }) (put-defunct k c.streams c.queue bound long (kept c) refl refl) ∙ by_turn u
 
     -- it is handed over
-    pub turn-hands : t ≡ U.Handed → {x : Control} {a : AfterTake} → x ≡ handed_in k → a ≡ record { control = x; answer = Taken.Handed (k.sent + 1) q } → says a ≡ took
-    turn-hands u p e =
-        ap says e ∙ ap (λ (x : Control). record { connection = with x; answer = returned (handed q (k.sent + 1)) }) p
-        ∙ (λ i. record { connection = put-handed k c.streams c.kinds c.counts c.qids within told.may.1 i; answer = returned (handed (told.first i) (k.sent + 1)) }) ∙ by_turn U.Handed u
+    pub turn-hands : U.Handed ≡ turn_of s (open_in k c.streams) q → record { connection = with (handed_in k); answer = returned (handed q (k.sent + 1)) } ≡ took
+    turn-hands u = (λ i. record { connection = put-handed k c.streams c.queue bound long i; answer = returned (handed (first i) (k.sent + 1)) }) ∙ by_turn u
 
-  -- ---- a request is accepted, by its tag and the state
-  module _ (may : Accepting k) (long : length c.streams ≡ 8) (q : Request) {s : State} {n : ℕ} (state : s ≡ state_in k) (kind : n ≡ tag (kind_of q)) where
+    -- it is answered
+    abbrev told_of : State → ℕ → Summary → After
+    told_of s opened m = record { connection = with (answered_in k s opened k.next (k.waiting - 1)); answer = returned (answered m (number_after k.sent)) }
+
+    -- with no stream open
+    clears : (s : State) (m : Summary) → told_of s 0 m ≡ gives (answer (kept c) s (none_open (open_in k c.streams)) ws m)
+    clears s m = put-answered k c.streams c.queue bound long s (none_open (open_in k c.streams)) c.streams ws m refl refl refl (sym (behind-size k c.streams c.queue))
+
+    pub turn-resets : U.Resets ≡ turn_of s (open_in k c.streams) q
+        → told_of (cond (any is_reset (lined (kind_at c.queue.kinds) (behind k.first) (k.waiting - 1))) Interrupted Ready) 0 S.Success ≡ took
+    turn-resets u =
+        clears (cond (any is_reset (lined (kind_at c.queue.kinds) (behind k.first) (k.waiting - 1))) Interrupted Ready) S.Success
+        ∙ ap (λ (b : Bool). gives (answer (kept c) (cond b Interrupted Ready) (none_open (open_in k c.streams)) ws S.Success))
+        (sym (resets-by-kind (lined (place_at c.queue) (behind k.first) (k.waiting - 1)) ∙ resets-in-kinds c.queue (behind k.first) (k.waiting - 1)))
+        ∙ by_turn u
+
+    pub turn-full : U.Full ≡ turn_of s (open_in k c.streams) q → told_of Failed 0 (S.Failure StreamsFull) ≡ took
+    turn-full u = clears Failed (S.Failure StreamsFull) ∙ by_turn u
+
+    pub turn-unknown : U.Unknown ≡ turn_of s (open_in k c.streams) q → told_of Failed 0 (S.Failure StreamUnknown) ≡ took
+    turn-unknown u = clears Failed (S.Failure StreamUnknown) ∙ by_turn u
+
+    -- it is ignored: the state and the streams stay
+    pub turn-ignored : U.Ignored ≡ turn_of s (open_in k c.streams) q → told_of s k.opened S.Ignored ≡ took
+    turn-ignored u =
+        ap (λ (s : State). told_of s k.opened S.Ignored) state
+        ∙ put-answered k c.streams c.queue bound long (state_in k) (open_in k c.streams) c.streams ws S.Ignored
+        (sym (opened-own k c.streams c.queue bound long)) refl (sym (streams-own k c.streams c.queue bound long)) (sym (behind-size k c.streams c.queue))
+        ∙ by_turn u
+
+  -- ---- a request is accepted, by whether it is a RESET, and the state
+  module _ (may : Accepting k) (long : length c.streams ≡ 8) (q : Request) where
     abbrev accepted : After
     accepted = carried (storing q) c (returned (accept (kept c) q))
 
-    accept-by : {x y : Bool} → is RESET q ≡ x → in_state (state_in k) Connected ≡ y
-        → cond x
+    abbrev accepting : Bool → Bool → Done
+    accepting x y =
+        cond x
         (cond y (record { table = defunct (enqueued (kept c) (state_in k) (open_in k c.streams) q); said = closed })
         (record { table = enqueued (kept c) Interrupted (none_open (open_in k c.streams)) q; said = queued }))
         (record { table = enqueued (kept c) (state_in k) (open_in k c.streams) q; said = queued })
-        ≡ accept (kept c) q
-    accept-by p u =
-        let t : Table = kept c in
-        sym (λ i. cond (p i)
-        (cond (u i) (record { table = defunct (enqueued t t.state t.streams q); said = closed }) (record { table = enqueued t Interrupted (none_open t.streams) q; said = queued }))
-        (record { table = enqueued t t.state t.streams q; said = queued }))
 
-    resets : n ≡ tag RESET → is RESET q ≡ true
-    resets e = eq-eqb (tag (kind_of q)) (tag RESET) (sym kind ∙ e)
+    accept-by : {x y : Bool} → is RESET q ≡ x → in_state (state_in k) Connected ≡ y → carried (storing q) c (returned (accepting x y)) ≡ accepted
+    accept-by p u = sym (λ i. carried (storing q) c (returned (accepting (p i) (u i))))
 
-    pub accept-closes : {y : Bool} → n ≡ tag RESET → y ≡ in_state s Connected → y ≡ true
-        → {x z : Control} {a : AfterArrive} → x ≡ counted_in k s k.opened → z ≡ defunct_in x → a ≡ record { control = z; answer = Arrival.Closed } → told_arrive a c.streams c.kinds c.counts c.qids ≡ accepted
-    accept-closes p u t f g e =
-        ap (λ (a : AfterArrive). told_arrive a c.streams c.kinds c.counts c.qids) e ∙ ap (λ (x : Control). record { connection = with x; answer = returned closed }) (g ∙ ap defunct_in f)
-        ∙ ap (λ (x : Connection). record { connection = x; answer = returned closed })
-        (put-defunct k c.streams c.kinds c.counts c.qids (bounds k may.bounds) long (enqueued (kept c) (state_in k) (open_in k c.streams) q) refl refl)
-        ∙ ap (λ (d : Done). carried (storing q) c (returned d)) (accept-by (resets p) (state-test k Connected state u t))
+    pub accept-closes : is RESET q ≡ true → in_state (state_in k) Connected ≡ true → record { connection = with (defunct_in (counted_in k (state_in k) k.opened)); answer = returned closed } ≡ accepted
+    accept-closes p u =
+        ap (λ (x : Connection). record { connection = x; answer = returned closed })
+        (put-defunct k c.streams c.queue (bounds k may.bounds) long (enqueued (kept c) (state_in k) (open_in k c.streams) q) refl refl)
+        ∙ accept-by p u
 
     -- its numbers are in the place behind the last one that waits
-    abbrev at : ℕ
-    at = place k.first k.waiting
+    abbrev stored : Control → After
+    stored x = record { connection = joined x c.streams (holding q (place k.first k.waiting) c.queue); answer = returned queued }
 
-    module _ {kinds : List ℕ} {counts qids : List ℤ} (e : (kinds ≡ set c.kinds at (tag (kind_of q))) × ((counts ≡ set c.counts at (count_of q)) × (qids ≡ set c.qids at (qid_of q)))) where
-      stored : {y x : Control} {a : AfterArrive} → x ≡ y → a ≡ record { control = x; answer = Arrival.Queued } → told_arrive a c.streams kinds counts qids
-          ≡ record { connection = joined y c.streams (set c.kinds at (tag (kind_of q))) (set c.counts at (count_of q)) (set c.qids at (qid_of q)); answer = returned queued }
-      stored p g = ap (λ (a : AfterArrive). told_arrive a c.streams kinds counts qids) g ∙ (λ i. record { connection = joined (p i) c.streams (e.0 i) (e.1.0 i) (e.1.1 i); answer = returned queued })
+    pub accept-resets : is RESET q ≡ true → in_state (state_in k) Connected ≡ false → stored (counted_in k Interrupted 0) ≡ accepted
+    accept-resets p u = put-enqueued k c.streams c.queue (bounds k may.bounds) long Interrupted (none_open (open_in k c.streams)) q refl refl refl ∙ accept-by p u
 
-      pub accept-resets : {y : Bool} → n ≡ tag RESET → y ≡ in_state s Connected → y ≡ false
-          → {x : Control} {a : AfterArrive} → x ≡ counted_in k Interrupted 0 → a ≡ record { control = x; answer = Arrival.Queued } → told_arrive a c.streams kinds counts qids ≡ accepted
-      accept-resets p u t f g =
-          stored f g ∙ put-enqueued k c.streams c.kinds c.counts c.qids (bounds k may.bounds) long Interrupted (none_open (open_in k c.streams)) q refl refl refl
-          ∙ ap (λ (d : Done). carried (storing q) c (returned d)) (accept-by (resets p) (state-test k Connected state u t))
-
-      pub accept-queues : (n ≡ tag RESET → ⊥) → {x : Control} {a : AfterArrive} → x ≡ counted_in k s k.opened → a ≡ record { control = x; answer = Arrival.Queued } → told_arrive a c.streams kinds counts qids ≡ accepted
-      accept-queues p f g =
-          let b : Bounds k = bounds k may.bounds in
-          stored (f ∙ ap (λ (s : State). counted_in k s k.opened) state) g
-          ∙ put-enqueued k c.streams c.kinds c.counts c.qids b long (state_in k) (open_in k c.streams) q
-          (sym (opened-own k c.streams c.kinds c.counts c.qids b long)) refl (sym (streams-own k c.streams c.kinds c.counts c.qids b long))
-          ∙ ap (λ (d : Done). carried (storing q) c (returned d)) (accept-by (ne_eqb (tag (kind_of q)) (tag RESET) (λ e. p (kind ∙ e))) refl)
+    pub accept-queues : is RESET q ≡ false → stored (counted_in k (state_in k) k.opened) ≡ accepted
+    accept-queues p =
+        let b : Bounds k = bounds k may.bounds in
+        put-enqueued k c.streams c.queue b long (state_in k) (open_in k c.streams) q (sym (opened-own k c.streams c.queue b long)) refl (sym (streams-own k c.streams c.queue b long))
+        ∙ accept-by p refl

@@ -1,27 +1,23 @@
 // The control after a step, and what the step answers.
+ghost use Rattle.std.specs.Prelude.{◌≡◌};
+
 use record::record::Control;
-use states::answers::{Arrival, Closing, Reported, Taken};
+use refusal::Refusal;
 
 #[derive(Clone, Copy)]
-pub struct AfterArrive {
+pub struct After<A> {
     pub control: Control,
-    pub answer: Arrival,
+    pub answer: A,
 }
 
-#[derive(Clone, Copy)]
-pub struct AfterTake {
-    pub control: Control,
-    pub answer: Taken,
-}
-
-#[derive(Clone, Copy)]
-pub struct AfterReport {
-    pub control: Control,
-    pub answer: Reported,
-}
-
-#[derive(Clone, Copy)]
-pub struct AfterClose {
-    pub control: Control,
-    pub answer: Closing,
+impl<A> After<A> {
+    // The control is renewed: see `record::record::renewed`.
+    pub fn new(control: Control, answer: A) -> After<A>
+        ensures { result ≡ record { control = control; answer = answer } }
+    {
+        After {
+            control: record::record::renewed(control),
+            answer,
+        }
+    }
 }

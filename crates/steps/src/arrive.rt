@@ -1,123 +1,82 @@
 // Arrive: a request has come, and goes to the place behind the last one that waits. Document 01, "Connection record".
 // The refusals come in this order: 24, 18, 27, 20, 17.
-ghost use Rattle.std.specs.Prelude.{◌≡◌, ◌<◌, set};
-ghost use Rattle.bolt.specs.Requests.{tag};
-ghost use Rattle.states.specs.Requests.{kind_of};
-ghost use Rattle.record.specs.Names.{count_of, qid_of};
+ghost use Rattle.std.specs.Prelude.{◌≡◌, ◌<◌};
+ghost use Rattle.states.specs.Answers.{told_arrival};
 ghost use Rattle.record.specs.Ring.{place};
-ghost use Rattle.record.specs.Record.{joined};
-ghost use Rattle.record.specs.Calls.{arrive_of};
-ghost use Rattle.steps.specs.Steps.{told_arrive};
-ghost use Rattle.steps.specs.Private.Changes.{queue, Accepting, Accepts};
+ghost use Rattle.record.specs.Record.{joined, state_in};
+ghost use Rattle.record.specs.Calls.{arrive_of, holding};
+ghost use Rattle.steps.specs.Steps.{told_after};
+ghost use Rattle.steps.specs.Private.Changes.{Accepting, Accepts};
 
-use crate::after::AfterArrive;
-use crate::changes;
-use record::record::Control;
-use record::{names, rules};
+use crate::after::After;
+use crate::{changes, opening};
+use record::names;
+use record::record::{Control, Queue};
 use refusal::Refusal;
 use states::answers::Arrival;
 use states::request::Request;
 use states::state::State;
-use states::{request, state};
 
 // A request has come. A RESET interrupts what is going on at once; before HELLO it closes the connection.
 pub fn step(
     control: Control,
     streams: &[u64; 8],
-    kinds: &mut [u8; 32],
-    counts: &mut [i64; 32],
-    qids: &mut [i64; 32],
+    queue: &mut Queue,
     request: Request,
-) -> AfterArrive
-    ensures { told_arrive result streams.now kinds.new counts.new qids.new ≡ arrive_of (joined control streams.now kinds.old counts.old qids.old) request }
+) -> After<Result<Arrival, Refusal>>
+    ensures { told_after told_arrival result streams.now queue.new ≡ arrive_of (joined control streams.now queue.old) request }
 {
-    let keeps = rules::keeps_rules(
-        control.state,
-        control.in_flight,
-        control.first,
-        control.waiting,
-        control.opened,
-        control.next,
-        control.accepted,
-        control.sent,
-        streams,
-        kinds,
-        counts,
-        qids,
-    );
-    if !keeps {
-        return answer(control, Arrival::Refused(Refusal::InvalidRecord));
-    }
-    let state = names::state_of(control.state);
-    if state::is_in(state, State::Defunct) {
-        return answer(control, Arrival::Refused(Refusal::ConnectionDefunct));
-    }
-    if !request::is_in_range(request) {
-        return answer(control, Arrival::Refused(Refusal::OutOfRange));
+    let state = match opening::state_of(control, streams, queue) {
+        Ok(state) => state,
+        Err(why) => return After::new(control, Err(why)),
+    };
+    if !request.is_in_range() {
+        return After::new(control, Err(Refusal::OutOfRange));
     }
     if 4294967295 <= control.accepted {
-        return answer(control, Arrival::Refused(Refusal::RequestLimitReached));
+        return After::new(control, Err(Refusal::RequestLimitReached));
     }
     if 32 <= control.waiting {
-        return answer(control, Arrival::Refused(Refusal::QueueFull));
+        return After::new(control, Err(Refusal::QueueFull));
     }
-    accept(control, kinds, counts, qids, request)
+    accept(control, state, queue, request)
 }
 
 // A request is accepted. RESET interrupts at once; before HELLO it closes.
 fn accept(
     control: Control,
-    kinds: &mut [u8; 32],
-    counts: &mut [i64; 32],
-    qids: &mut [i64; 32],
+    state: State,
+    queue: &mut Queue,
     request: Request,
-) -> AfterArrive
-    requires { Accepting control }
-    ensures { Accepts control request (queue kinds.old counts.old qids.old) (queue kinds.new counts.new qids.new) result }
+) -> After<Result<Arrival, Refusal>>
+    requires { Accepting control × (state ≡ state_in control) }
+    ensures { Accepts control request queue.old queue.new result }
 {
-    let state = names::state_of(control.state);
-    if request::tag(request) == request::RESET {
-        if state::is_in(state, State::Connected) {
-            let counted = changes::counted(control, state, control.opened);
-            return answer(changes::defunct(counted), Arrival::Closed);
+    let (state, opened) = match request {
+        Request::Reset => {
+            if state == State::Connected {
+                let counted = changes::counted(control, state, control.opened);
+                return After::new(changes::defunct(counted), Ok(Arrival::Closed));
+            }
+            (State::Interrupted, 0)
         }
-        store(control.first, control.waiting, kinds, counts, qids, request);
-        let interrupted = changes::counted(control, State::Interrupted, 0);
-        return answer(interrupted, Arrival::Queued);
-    }
-    store(control.first, control.waiting, kinds, counts, qids, request);
-    let counted = changes::counted(control, state, control.opened);
-    answer(counted, Arrival::Queued)
+        _ => (state, control.opened),
+    };
+    store(control.first, control.waiting, queue, request);
+    After::new(
+        changes::counted(control, state, opened),
+        Ok(Arrival::Queued),
+    )
 }
 
 // A request's numbers go to the place behind the last one that waits.
-fn store(
-    first: usize,
-    waiting: usize,
-    kinds: &mut [u8; 32],
-    counts: &mut [i64; 32],
-    qids: &mut [i64; 32],
-    request: Request,
-)
+fn store(first: usize, waiting: usize, queue: &mut Queue, request: Request)
     requires { (first < 32) × (waiting < 32) }
-    ensures kinds { kinds.new ≡ set kinds.old (place first waiting) (tag (kind_of request)) }
-    ensures counts { counts.new ≡ set counts.old (place first waiting) (count_of request) }
-    ensures qids { qids.new ≡ set qids.old (place first waiting) (qid_of request) }
+    ensures { queue.new ≡ holding request (place first waiting) queue.old }
 {
     let at = (first + waiting) % 32;
-    let kind = request::tag(request);
-    let n = names::count_of(request);
-    let qid = names::qid_of(request);
-    kinds[at] = kind;
-    counts[at] = n;
-    qids[at] = qid;
-}
-
-fn answer(control: Control, answer: Arrival) -> AfterArrive
-    ensures { result ≡ record { control = control; answer = answer } }
-{
-    AfterArrive {
-        control: record::record::renewed(control),
-        answer: answer,
-    }
+    let (n, qid) = names::numbers_of(request);
+    queue.kinds[at] = request.tag();
+    queue.counts[at] = n;
+    queue.qids[at] = qid;
 }

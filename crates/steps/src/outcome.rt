@@ -1,4 +1,5 @@
 // What follows from the engine's outcome for a request: whether it fits, the summary, and the new state of 003's appendix.
+// Outcome, state and request come from three places (the caller, the control, the queue), and no one struct of them would be passed on.
 ghost use Rattle.std.specs.Prelude.{◌≡◌, true, ◌≤◌};
 ghost use Rattle.states.specs.declared.answers.Outcome.TheVariants.{Success};
 ghost use Rattle.states.specs.Requests.{kind_of};
@@ -9,16 +10,14 @@ ghost use Rattle.states.specs.Private.Outcomes.{last_state, failure_state};
 use states::answers::{Failure, Outcome, Summary};
 use states::request::Request;
 use states::state::State;
-use states::{request, state};
 
 // Whether an outcome fits a request: success with more is for PULL and DISCARD only.
 pub fn fits(outcome: Outcome, request: Request) -> bool
     ensures { result ≡ fitting outcome request }
 {
     match outcome {
-        Outcome::Success => true,
-        Outcome::More => request::fetches(request),
-        Outcome::Failure => true,
+        Outcome::Success | Outcome::Failure => true,
+        Outcome::More => request.fetches(),
     }
 }
 
@@ -34,20 +33,21 @@ pub fn summary_of(outcome: Outcome, state: State, next: u64, request: Request) -
 }
 
 // The summary of a success: has_more for PULL and DISCARD, the stream's number for RUN in a transaction.
+#[tactic(auto, unfolding(states::specs::Table::success_summary))]
 fn success_summary(state: State, next: u64, request: Request) -> Summary
     requires { next ≤ 65536 }
     ensures { result ≡ success_summary state next request }
 {
-    if request::fetches(request) {
-        return Summary::HasMore(false);
-    }
-    if request::tag(request) == request::RUN {
-        if state::in_transaction(state) {
-            return Summary::Stream(next as u32);
+    match request {
+        Request::Discard { .. } | Request::Pull { .. } => Summary::HasMore(false),
+        Request::Run => {
+            if state.in_transaction() {
+                return Summary::Stream(next as u32);
+            }
+            Summary::Success
         }
-        return Summary::Success;
+        _ => Summary::Success,
     }
-    Summary::Success
 }
 
 // The state after a report, with `left` streams open.
@@ -66,32 +66,29 @@ pub fn new_state(outcome: Outcome, state: State, request: Request, left: usize) 
 fn after_failure(request: Request) -> State
     ensures { result ≡ failure_state (kind_of request) }
 {
-    if request::tag(request) == request::HELLO {
-        return State::Defunct;
+    match request {
+        Request::Hello => State::Defunct,
+        _ => State::Failed,
     }
-    State::Failed
 }
 
 // The state after a success.
+#[tactic(auto, using(crate::proofs::Outcomes::succeeds))]
 fn after_success(state: State, request: Request, left: usize) -> State
     requires { hands_over state (kind_of request) ≡ true }
     ensures { result ≡ new_state state (kind_of request) (response Success request left) }
 {
     match request {
-        Request::Hello => State::Ready,
-        Request::Goodbye => state,
-        Request::Reset => state,
+        Request::Hello | Request::Commit | Request::Rollback => State::Ready,
+        Request::Goodbye | Request::Reset => state,
         Request::Run => {
-            if state::is_in(state, State::Ready) {
+            if state == State::Ready {
                 return State::Streaming;
             }
             State::TxStreaming
         }
         Request::Begin => State::TxReady,
-        Request::Commit => State::Ready,
-        Request::Rollback => State::Ready,
-        Request::Discard { n: _, qid: _ } => after_last(state, left),
-        Request::Pull { n: _, qid: _ } => after_last(state, left),
+        Request::Discard { .. } | Request::Pull { .. } => after_last(state, left),
     }
 }
 
@@ -100,10 +97,10 @@ fn after_last(state: State, left: usize) -> State
     ensures { result ≡ last_state state left }
 {
     if left == 0 {
-        if state::is_in(state, State::Streaming) {
-            return State::Ready;
-        }
-        return State::TxReady;
+        return match state {
+            State::Streaming => State::Ready,
+            _ => State::TxReady,
+        };
     }
     state
 }

@@ -4,7 +4,7 @@ ghost use Rattle.std.proofs.lemmas.List.Edits.{sets};
 ghost use Rattle.states.specs.Table.{without};
 
 // How many streams are open, and the number that the next one gets.
-#[derive(Clone, Copy)]
+#[derive(Clone, Copy, Debug)]
 pub struct Opened {
     pub count: usize,
     pub next: u64,
@@ -25,15 +25,13 @@ pub fn remove(streams: &mut [u64; 8], count: usize, number: u64) -> usize
     ensures moved { streams.new ≡ sets streams.old 0 (without number (take count streams.old)) }
 {
     let mut left = 0;
-    let mut i = 0;
-    while i < count {
+    // By index, since what stays is written into the array that is read.
+    for i in 0..count {
         let x = streams[i];
-        i += 1;
-        if x == number {
-            continue;
+        if x != number {
+            streams[left] = x;
+            left += 1;
         }
-        streams[left] = x;
-        left += 1;
     }
     left
 }

@@ -9,19 +9,18 @@ use mir.Val.{Fits, to_z}
 use mir.Facts.{to_z_pos}
 use lib.IntN.{ℤ, pos}
 use lib.ListN.{length}
-use lib.Seq.{sets, length-sets, take-length}
+use lib.Seq.{sets, length-sets}
 use Rattle.slices.specs.Parts.{reaches, fits, copied}
-use Rattle.slices.proofs.Parts.{reaches-yes, reaches-le, sets-append, fits-yes}
+use Rattle.slices.proofs.Parts.{reaches-le, sets-append, fits-yes}
 use Rattle.numbers.specs.BigEndian.{bytes_of}
 use Rattle.numbers.specs.TwosComplement.{fits_in}
-use Rattle.numbers.proofs.Access.{failed, passed}
+use Rattle.numbers.proofs.Access.{passed}
 use Rattle.refusal.specs.Answer.{returned}
-use Rattle.refusal.specs.declared.Refusal.TheVariants.{NoRoom}
 use Rattle.markers.specs.Value.{count, count_entries}
 use Rattle.packing.specs.Packing.{is_tiny, pack_integer, pack, pack_items, pack_entries, size_header, narrowest, doublings}
-use Rattle.packing.specs.declared.Packed.{Packed}
-use Rattle.packing.specs.declared.Packed.TheVariants as P
-use Rattle.packing.proofs.Packing.{narrowest-most, length-tiny, length-integer, Packs, no_room, packs, packed-there}
+use Rattle.std.specs.Prelude.{Result, Ok}
+use Rattle.refusal.specs.declared.Refusal.{Refusal}
+use Rattle.packing.proofs.Packing.{narrowest-most, length-tiny, length-integer, Packs, packs, packed-there}
 use Rattle.states.specs.declared.answers.Failure.{Failure}
 use Rattle.states.specs.declared.answers.Failure.TheVariants as F
 use Rattle.states.specs.declared.answers.Summary.TheVariants as S
@@ -88,32 +87,12 @@ pub has-more-size : (b : Bool) → 13 ≡ length (pack_summary (S.HasMore b))
 has-more-size true = ap length more-form
 has-more-size false = ap length last-form
 
--- ---- packing a form
-pub same-form : (d : List ℕ) (at : ℕ) (r : Packed) (e : List ℕ) {v w : List ℕ} → v ≡ w → Packs d at (returned v) r e → Packs d at (returned w) r e
-same-form d at r e f p = subst (λ (l : List ℕ). Packs d at (returned l) r e) f p
-
--- by a copy, which tells whether there was room
-module _ (v d : List ℕ) (at : ℕ) (t : Bool) (e : List ℕ) (q : t ≡ fits v 0 (length v) d at) (f : e ≡ copied v 0 (length v) d at) where
-  tells : t ≡ reaches d at (length v)
-  tells = q ∙ rw (reaches-yes v 0 (length v) (omega arith))
-
-  pub form-refused : not t ≡ true → Packs d at (returned v) (P.Refused NoRoom) e
-  form-refused n =
-      let z : e ≡ d = f ∙ rw (failed q n) in
-      subst (λ (l : List ℕ). Packs d at (returned v) (P.Refused NoRoom) l) (sym z) (no_room d at (returned v) v (length v) t refl refl tells n)
-
-  pub form-room : not t ≡ false → at + length v ≤ length d
-  form-room n = reaches-le d at (length v) (passed tells n)
-
-  pub form-packed : not t ≡ false → Packs d at (returned v) (P.To (at + length v)) e
-  form-packed n = packs d at (returned v) v (length v) t refl refl tells e n (f ∙ rw (passed q n, take-length v))
-
--- the number of a stream behind what stands before it
+-- ---- packing the number of a stream behind what stands before it
 module _ (n : ℕ) (d : List ℕ) (at k : ℕ) (t : Bool) (l : k ≡ length (pack_summary (S.Stream n))) (q : t ≡ reaches d at k) (y : not t ≡ false) where
   pub stream-room : at + (7 + length (pack_integer (pos n))) ≤ length d
   stream-room = omega (arith, reaches-le d at k (passed q y), l, stream-size n (length (pack_integer (pos n))) (pos n) refl refl)
 
-  pub stream-packed : (c e : List ℕ) (r : Packed) (z : ℤ) → z ≡ pos n → c ≡ copied before-qid 0 7 d at → Packs c (at + 7) (returned (pack_integer z)) r e
+  pub stream-packed : (c e : List ℕ) (r : Result ℕ Refusal) (z : ℤ) → z ≡ pos n → c ≡ copied before-qid 0 7 d at → Packs c (at + 7) (returned (pack_integer z)) r e
       → Packs d at (returned (pack_summary (S.Stream n))) r e
   stream-packed c e r z i f p =
       let v = pack_integer (pos n) in
@@ -123,5 +102,5 @@ module _ (n : ℕ) (d : List ℕ) (at k : ℕ) (t : Bool) (l : k ≡ length (pac
       let s : at + 7 + length v ≡ at + k = omega (arith, l, stream-size n (length v) (pos n) refl refl) in
       let w : e ≡ sets d at (pack_summary (S.Stream n)) =
       there.1 ∙ ap (λ (b : List ℕ). sets b (at + 7) v) g ∙ sets-append before-qid v d at ∙ ap (λ (b : List ℕ). sets d at b) (stream-form n) in
-      subst (λ (x : Packed). Packs d at (returned (pack_summary (S.Stream n))) x e) (sym (there.0 ∙ ap P.To s))
+      subst (λ (x : Result ℕ Refusal). Packs d at (returned (pack_summary (S.Stream n))) x e) (sym (there.0 ∙ ap (λ (end : ℕ). Ok end) s))
       (packs d at (returned (pack_summary (S.Stream n))) (pack_summary (S.Stream n)) k t refl l q e y w)

@@ -2,37 +2,21 @@
 ghost use Rattle.std.specs.Prelude.{◌≡◌};
 ghost use Rattle.summaries.specs.Arrivals.{arrival_of};
 
-use requests::request::Request;
+use requests::request::{Batch, Request};
 
-// The request as it arrives at the connection.
+// The request as it arrives at the connection. A function and no From: both types are of other crates.
 pub fn arrival_of(request: Request) -> states::request::Request
     ensures { result ≡ arrival_of request }
 {
     match request {
-        Request::Hello {
-            user_agent: _,
-            scheme: _,
-            principal: _,
-            credentials: _,
-            routing: _,
-        } => states::request::Request::Hello,
+        Request::Hello { .. } => states::request::Request::Hello,
         Request::Goodbye => states::request::Request::Goodbye,
         Request::Reset => states::request::Request::Reset,
-        Request::Run {
-            query: _,
-            parameters: _,
-            transaction: _,
-        } => states::request::Request::Run,
+        Request::Run { .. } => states::request::Request::Run,
         Request::Begin(_) => states::request::Request::Begin,
         Request::Commit => states::request::Request::Commit,
         Request::Rollback => states::request::Request::Rollback,
-        Request::Discard(batch) => states::request::Request::Discard {
-            n: batch.n,
-            qid: batch.qid,
-        },
-        Request::Pull(batch) => states::request::Request::Pull {
-            n: batch.n,
-            qid: batch.qid,
-        },
+        Request::Discard(Batch { n, qid }) => states::request::Request::Discard { n, qid },
+        Request::Pull(Batch { n, qid }) => states::request::Request::Pull { n, qid },
     }
 }

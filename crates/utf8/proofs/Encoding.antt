@@ -10,6 +10,7 @@ use lib.Count.{count_leading_zeros, leading_of_zero}
 use lib.Dec.{eqb, leb, ltb}
 use lib.Pow.{pow_pos}
 use lib.ListN.{length, drop, length-append}
+use Rattle.std.specs.Prelude.{Some, None}
 use Rattle.slices.proofs.Below.{every, below}
 use Rattle.utf8.specs.Utf8.{leading_ones, is_continuation, is_surrogate, is_scalar, completes, sized, rows, sequence, utf8}
 use Rattle.utf8.specs.Encoding.{continuations, encode, encode_all, IsText, Encoded, AcceptsEncodings}
@@ -153,20 +154,20 @@ module _ (k least : ℕ) (row : Row k least) where
       let s : List ℕ = continuations k v ++ t in
       let last : completes 0 least v t ≡ true = rw (le-leb least v h, scalar) in
       let bits : lead % 2 ^ (7 - suc k) ≡ x = lead_bits (suc k) x row.small l in
-      let full : sized (suc k) least (lead % 2 ^ (7 - suc k)) s ≡ suc k = rw (bits, pred-suc, completes-all k least v t, last) in
+      let full : sized (suc k) least (lead % 2 ^ (7 - suc k)) s ≡ Some (suc k) = rw (bits, pred-suc, completes-all k least v t, last) in
       let ones : leading_ones lead ≡ suc k = lead-ones (suc k) x row.small l in
-      let size : sequence lead s ≡ suc k = sym (by_ones lead s (suc k) ones) ∙ row.read lead s ∙ full in
-      ap (λ (o : List ℕ). utf8 (o ++ t)) (row.written v h l) ∙ utf8-cons lead s (omega arith)
-      ∙ ap (λ (n : ℕ). utf8 (drop (n - 1) s)) size ∙ ap (λ (n : ℕ). utf8 (drop n s)) pred-suc ∙ ap utf8 (drop_all k v t)
+      let size : sequence lead s ≡ Some (suc k) = sym (by_ones lead s (suc k) ones) ∙ row.read lead s ∙ full in
+      ap (λ (o : List ℕ). utf8 (o ++ t)) (row.written v h l) ∙ utf8-cons lead s (suc k) size
+      ∙ ap (λ (n : ℕ). utf8 (drop n s)) pred-suc ∙ ap utf8 (drop_all k v t)
 
   -- what is read as a sequence of the row, the row has written
-  begins : (lead : ℕ) (s : List ℕ) → leading_ones lead ≡ suc k → (sequence lead s ≡ 0 → ⊥) → Begins (lead ∷ s)
+  begins : (lead : ℕ) (s : List ℕ) → leading_ones lead ≡ suc k → (sequence lead s ≡ None → ⊥) → Begins (lead ∷ s)
   unfolding completes
   begins lead s e good = go (completes k least (lead % 2 ^ (7 - suc k)) s) refl
     where
       go : (t : Bool) → completes k least (lead % 2 ^ (7 - suc k)) s ≡ t → Begins (lead ∷ s)
       go false f =
-          let none : sized (suc k) least (lead % 2 ^ (7 - suc k)) s ≡ 0 = rw (pred-suc, f) in
+          let none : sized (suc k) least (lead % 2 ^ (7 - suc k)) s ≡ None = rw (pred-suc, f) in
           absurd (good (sym (by_ones lead s (suc k) e) ∙ row.read lead s ∙ none))
       go true f =
           let c = continues k least (lead % 2 ^ (7 - suc k)) s f in
@@ -220,7 +221,7 @@ begins-ascii lead s e =
     }
 
 -- every sequence is the encoding of a scalar value
-begins-any : (lead : ℕ) (s : List ℕ) → (sequence lead s ≡ 0 → ⊥) → Begins (lead ∷ s)
+begins-any : (lead : ℕ) (s : List ℕ) → (sequence lead s ≡ None → ⊥) → Begins (lead ∷ s)
 begins-any lead s good = go (eqb ones 0) (eqb ones 2) (eqb ones 3) (eqb ones 4) refl refl refl refl
   where
     ones : ℕ

@@ -13,6 +13,7 @@ use lib.Dec.{eqb, leb, lit<}
 use lib.Pow.{shl_exact}
 use lib.ListN.{length, get_or, drop, length-drop}
 use lib.Seq.{drop-cons}
+use Rattle.std.specs.Prelude.{Option, Some, None, unwrap_or}
 use Rattle.slices.proofs.Below.{below}
 use Rattle.utf8.specs.Utf8.{leading_ones, is_continuation, is_scalar, completes, sized, rows, sequence}
 
@@ -57,7 +58,7 @@ at_place s at h = rw (add-one at) (drop-cons s at 0 h)
 
 -- the list ends inside the sequence
 pub cut_off : (s : List ℕ) (at size least bits : ℕ) → at < length s → 1 ≤ size → length s - at < size
-    → 0 ≡ sized size least bits (drop (at + 1) s)
+    → None ≡ sized size least bits (drop (at + 1) s)
 cut_off s at size least bits h p l =
     rw (completes-short (size - 1) least bits (drop (at + 1) s) (omega (arith, length-drop (at + 1) s)))
 
@@ -89,7 +90,7 @@ module _ {s : List ℕ} {at size least bits v i : ℕ} (r : Reading s at size le
         sym r.decides ∙ rw (e, at_place s (at + i) (omega arith), f) refl
 
     -- the next byte is no continuation byte
-    pub no-continuation : is_continuation (get_or s (at + i) 0) ≡ false → 0 ≡ sized size least bits (drop (at + 1) s)
+    pub no-continuation : is_continuation (get_or s (at + i) 0) ≡ false → None ≡ sized size least bits (drop (at + 1) s)
     no-continuation e = rw (next, e)
 
     -- it is one
@@ -109,13 +110,13 @@ module _ {s : List ℕ} {at size least bits v i : ℕ} (r : Reading s at size le
     unfolding completes
     last = let z : size - i ≡ 0 = omega arith in sym (rw z at r.decides)
 
-    pub overlong : v < least → 0 ≡ sized size least bits (drop (at + 1) s)
+    pub overlong : v < least → None ≡ sized size least bits (drop (at + 1) s)
     overlong h = rw (last, lt-leb least v h)
 
-    pub no-scalar : least ≤ v → is_scalar v ≡ false → 0 ≡ sized size least bits (drop (at + 1) s)
+    pub no-scalar : least ≤ v → is_scalar v ≡ false → None ≡ sized size least bits (drop (at + 1) s)
     no-scalar h e = rw (last, le-leb least v h, e)
 
-    pub well-formed : least ≤ v → is_scalar v ≡ true → size ≡ sized size least bits (drop (at + 1) s)
+    pub well-formed : least ≤ v → is_scalar v ≡ true → Some size ≡ sized size least bits (drop (at + 1) s)
     well-formed h e = rw (last, le-leb least v h, e)
 
 -- ---- the lead byte
@@ -126,13 +127,13 @@ module _ (lead : ℕ) (s : List ℕ) where
   by_ones ones e = rw e
 
   -- a mask takes its bits
-  pub by_mask : (ones bits least r : ℕ) → leading_ones lead ≡ ones → r ≡ sized ones least (bit_and lead (2 ^ bits - 1)) s
+  pub by_mask : (ones bits least : ℕ) (r : Option ℕ) → leading_ones lead ≡ ones → r ≡ sized ones least (bit_and lead (2 ^ bits - 1)) s
       → sized ones least (lead % 2 ^ bits) s ≡ rows ones lead s → r ≡ sequence lead s
   by_mask ones bits least r e f g = f ∙ ap (λ (v : ℕ). sized ones least v s) (and_mask lead bits) ∙ g ∙ by_ones ones e
 
   -- 1 leading one, and above 4, are faults
   pub no_lead : (leading_ones lead ≡ 0 → ⊥) → (leading_ones lead ≡ 2 → ⊥) → (leading_ones lead ≡ 3 → ⊥) → (leading_ones lead ≡ 4 → ⊥)
-      → 0 ≡ sequence lead s
+      → None ≡ sequence lead s
   unfolding sequence
   no_lead a b c d =
       rw (ne_eqb (leading_ones lead) 0 a, ne_eqb (leading_ones lead) 2 b, ne_eqb (leading_ones lead) 3 c, ne_eqb (leading_ones lead) 4 d)
@@ -147,33 +148,41 @@ module _ (lead : ℕ) (s : List ℕ) where
       false≢true (rw (x, eq-eqb (leading_ones lead) 0 e) at f)
 
   -- an ASCII byte is a sequence
-  pub sequence-ascii : lead < 0x80 → sequence lead s ≡ 1
+  pub sequence-ascii : lead < 0x80 → sequence lead s ≡ Some 1
   unfolding count_leading_zeros
   sequence-ascii h = sym (by_ones 0 (eqb-true (leading_ones lead) 0 (below (λ b. eqb (leading_ones b) 0) 0x80 refl lead h)))
 
 -- ---- every row
 
--- what holds of 1, of 0 and of every sequence of continuation bytes holds of every row
-by_row : (P : ℕ → ℕ → Type 0) (s t : List ℕ) → P 1 1 → P 0 0 → ((k least v : ℕ) → P (sized (suc k) least v s) (sized (suc k) least v t))
-    → (lead : ℕ) → P (sequence lead s) (sequence lead t)
+-- what holds of 1, of none and of every sequence of continuation bytes holds of every row
+by_row : (P : Option ℕ → Type 0) (s : List ℕ) → P (Some 1) → P None → ((k least v : ℕ) → P (sized (suc k) least v s))
+    → (lead : ℕ) → P (sequence lead s)
 unfolding sequence
-by_row P s t one none more lead =
+by_row P s one none more lead =
     by-test (eqb (leading_ones lead) 0) one
     (by-test (eqb (leading_ones lead) 2) (more 1 0x80 (lead % 0x20))
     (by-test (eqb (leading_ones lead) 3) (more 2 0x800 (lead % 0x10))
     (by-test (eqb (leading_ones lead) 4) (more 3 0x10000 (lead % 0x08)) none)))
   where
-    by-test : (t : Bool) {a b c d : ℕ} → P a b → P c d → P (cond t a c) (cond t b d)
+    by-test : (t : Bool) {a b : Option ℕ} → P a → P b → P (cond t a b)
     by-test true p q = p
     by-test false p q = q
 
--- a sequence lies inside the list
-pub sequence-le : (lead : ℕ) (s : List ℕ) → sequence lead s ≤ suc (length s)
-sequence-le lead s = by_row (λ (n m : ℕ). n ≤ suc (length s)) s s (omega arith) (omega arith) sized-le lead
+-- a sequence has bytes, and lies inside the list
+pub sequence-size : (lead : ℕ) (s : List ℕ) (n : ℕ) → sequence lead s ≡ Some n → (1 ≤ n) × (n ≤ suc (length s))
+sequence-size lead s n e =
+    let P : Option ℕ → Type 0 = λ o. (m : ℕ) → o ≡ Some m → (1 ≤ m) × (m ≤ suc (length s)) in
+    by_row P s (λ m f. let g : 1 ≡ m = some-is f in (omega (arith, g), omega (arith, g))) (λ m f. absurd (none-is f)) sized-le lead n e
   where
-    sized-le : (k least v : ℕ) → sized (suc k) least v s ≤ suc (length s)
-    sized-le k least v = go (completes (suc k - 1) least v s) refl
+    some-is : {a b : ℕ} → Some a ≡ Some b → a ≡ b
+    some-is {a} {b} f = ap (λ (o : Option ℕ). unwrap_or o 0) f
+
+    none-is : {b : ℕ} → None ≡ Some b → ⊥
+    none-is {b} f = cc
+
+    sized-le : (k least v m : ℕ) → sized (suc k) least v s ≡ Some m → (1 ≤ m) × (m ≤ suc (length s))
+    sized-le k least v m = go (completes (suc k - 1) least v s) refl
       where
-        go : (t : Bool) → completes (suc k - 1) least v s ≡ t → cond t (suc k) 0 ≤ suc (length s)
-        go true e = omega (arith, completes-fits (suc k - 1) least v s e)
-        go false e = omega arith
+        go : (t : Bool) → completes (suc k - 1) least v s ≡ t → cond t (Some (suc k)) None ≡ Some m → (1 ≤ m) × (m ≤ suc (length s))
+        go true e f = let g : suc k ≡ m = some-is f in (omega (arith, g), omega (arith, g, completes-fits (suc k - 1) least v s e))
+        go false e f = absurd (none-is f)

@@ -4,14 +4,14 @@ use mathlib.Core.Bool.{Bool, true, false, ◌&&◌}
 use mathlib.Core.List.{List, [], ◌∷◌, ◌++◌}
 use Prim.Native.Nat.{ℕ, zero, suc, ◌+◌, ◌*◌, ◌/◌, ◌%◌, ◌^◌, ◌≤◌, ◌<◌, min, max}
 use native.Mathlib.Nat.{mod-lt, pow-suc}
-use native.Mathlib.Numerals.{add-one}
 use native.Mathlib.Omega.{arith}
 use borrow.Author.Tests.{eqb-true, eqb-false, eq-eqb, ne_eqb}
-use lib.Bits.{bit_and, bit_or, and_step, or_step, and_zero_r, or_add_and, and_le_l, and_le_r, and_block, and_high, and_shr, or_shr, and_mod, or_mod, or_shifted_r}
+use lib.Bits.{bit_and, bit_or, and_step, or_step, and_zero_r, or_add_and, and_le_l, and_le_r, and_block, and_high, and_shr, or_shr, and_mod, or_mod}
 use lib.Dec.{eqb, ltb, lit<}
-use lib.Pow.{shl_exact, pow-add}
-use lib.ListN.{length, get_or, take, drop, length-drop}
-use lib.Seq.{take-suc, take-add, drop-drop, get_or-drop}
+use lib.Pow.{pow-add}
+use lib.ListN.{length, get_or, take, drop}
+use lib.Seq.{take-add, drop-drop}
+use Rattle.std.specs.Int.{byte_worth, sum_through}
 use Rattle.slices.specs.Parts.{part}
 use Rattle.slices.proofs.Parts.{length_part, bytes-part}
 use Rattle.slices.proofs.Below.{every, below}
@@ -119,27 +119,21 @@ masked-next s at n k all h l e =
     ∙ sym (ap (all_below 0x80) (take-add k n (drop at s) ∙ ap (λ (t : List ℕ). part s at k ++ take n t) (drop-drop k at s))
     ∙ all_append 0x80 (part s at k) (part s (at + k) n))
 
--- ---- a word, byte by byte
+-- ---- a word
 
--- one byte more on top
-little-endian-snoc : (s : List ℕ) (b : ℕ) → little_endian (s ++ (b ∷ [])) ≡ b * 2 ^ (8 * length s) + little_endian s
+-- one byte below the others
+byte-below : (b : ℕ) (s : List ℕ) (k : ℕ)
+    → sum_through (λ i. byte_worth i (get_or (b ∷ s) i 0)) (suc k) ≡ b + sum_through (λ i. byte_worth i (get_or s i 0)) k * 0x100
+byte-below b s zero = omega arith
+byte-below b s (suc k) =
+    let e : 0x100 ^ suc (suc k) ≡ 0x100 ^ suc k * 0x100 = pow-suc 0x100 (suc k) in
+    rw (byte-below b s k, e) (omega arith)
+
+-- std's number of bytes is theirs
+pub worth-of : (s : List ℕ) (k : ℕ) → length s ≡ suc k → sum_through (λ i. byte_worth i (get_or s i 0)) k ≡ little_endian s
 unfolding little_endian
-little-endian-snoc [] b = omega arith
-little-endian-snoc (a ∷ s) b = rw (little-endian-snoc s b, eight-more (length s)) (omega arith)
-
-little-endian-lt : (s : List ℕ) → ((i : ℕ) → get_or s i 0 < 0x100) → little_endian s < 2 ^ (8 * length s)
-unfolding little_endian
-little-endian-lt [] h = lit< tt
-little-endian-lt (b ∷ s) h = rw (eight-more (length s)) (omega (arith, h 0, little-endian-lt s (λ i. h (suc i))))
-
--- of a part of bytes, i of them put together: the next is shifted above them and put in by an or
-pub next-byte : (s : List ℕ) (at i : ℕ) → ((j : ℕ) → get_or s j 0 < 0x100) → i < 8 → at + i < length s
-    → bit_or (little_endian (part s at i)) ((get_or s (at + i) 0 * 2 ^ (8 * i)) % 2 ^ 64) ≡ little_endian (part s at (i + 1))
-next-byte s at i h l k =
-    let b : ℕ = get_or s (at + i) 0 in
-    let n : length (part s at i) ≡ i = length_part s at i (omega arith) in
-    let small : little_endian (part s at i) < 2 ^ (8 * i) = rw n at (little-endian-lt (part s at i) (bytes-part s at i h)) in
-    let more : part s at (i + 1) ≡ part s at i ++ (b ∷ []) =
-    rw (add-one i, take-suc (drop at s) i 0 (omega (arith, length-drop at s)), get_or-drop at s i 0) refl in
-    rw (shl_exact {a = b} 8 (8 * i) 64 (h (at + i)) (omega arith), or_shifted_r b (8 * i) (little_endian (part s at i)) small, more)
-    (sym (rw n at (little-endian-snoc (part s at i) b)))
+worth-of [] k h = absurd (omega (arith, h))
+worth-of (b ∷ []) zero h = omega arith
+worth-of (b ∷ []) (suc k) h = absurd (omega (arith, h))
+worth-of (b ∷ c ∷ s) zero h = absurd (omega (arith, h))
+worth-of (b ∷ c ∷ s) (suc k) h = byte-below b (c ∷ s) k ∙ rw (worth-of (c ∷ s) k (omega (arith, h))) (omega arith)

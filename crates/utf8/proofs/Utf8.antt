@@ -5,13 +5,13 @@ use mathlib.Core.List.{List, [], ◌∷◌}
 use Prim.Native.Nat.{ℕ, zero, suc, ◌+◌, ◌-◌, ◌≤◌, ◌<◌}
 use native.Mathlib.Nat.{not-suc-le-zero}
 use native.Mathlib.Omega.{arith}
-use borrow.Author.Tests.{ne_eqb}
+use Rattle.std.specs.Prelude.{Option, Some, None}
 use lib.ListN.{length, get_or, drop, length-drop, drop_of_length-le}
 use lib.Seq.{drop-drop, get_or-drop}
 use Rattle.utf8.specs.Utf8.{sequence, sequences_from, utf8}
 use Rattle.utf8.specs.Private.Ascii.{ascii_run}
 use Rattle.utf8.proofs.Runs.{ascii-or-not, run-le, run_end}
-use Rattle.utf8.proofs.Sequences.{at_place, sequence-ascii, sequence-le}
+use Rattle.utf8.proofs.Sequences.{at_place, sequence-ascii, sequence-size}
 
 -- no bytes
 pub utf8_nil : utf8 [] ≡ true
@@ -19,14 +19,15 @@ unfolding utf8 sequences_from
 utf8_nil = refl
 
 -- a fault
-pub utf8-fault : (lead : ℕ) (s : List ℕ) → sequence lead s ≡ 0 → utf8 (lead ∷ s) ≡ false
+pub utf8-fault : (lead : ℕ) (s : List ℕ) → sequence lead s ≡ None → utf8 (lead ∷ s) ≡ false
 unfolding utf8 sequences_from
-utf8-fault lead s e = rw e
+utf8-fault lead s e = ap (λ (o : Option ℕ). elim o [ Some m ↦ sequences_from (m - 1) s | None ↦ false ]) e
 
 -- a sequence: what follows it decides
-pub utf8-cons : (lead : ℕ) (s : List ℕ) → (sequence lead s ≡ 0 → ⊥) → utf8 (lead ∷ s) ≡ utf8 (drop (sequence lead s - 1) s)
+pub utf8-cons : (lead : ℕ) (s : List ℕ) (n : ℕ) → sequence lead s ≡ Some n → utf8 (lead ∷ s) ≡ utf8 (drop (n - 1) s)
 unfolding utf8 sequences_from
-utf8-cons lead s h = rw (ne_eqb (sequence lead s) 0 h) (skipped (sequence lead s - 1) s)
+utf8-cons lead s n e =
+    ap (λ (o : Option ℕ). elim o [ Some m ↦ sequences_from (m - 1) s | None ↦ false ]) e ∙ skipped (n - 1) s
   where
     skipped : (skip : ℕ) (t : List ℕ) → sequences_from skip t ≡ utf8 (drop skip t)
     skipped zero [] = refl
@@ -36,9 +37,7 @@ utf8-cons lead s h = rw (ne_eqb (sequence lead s) 0 h) (skipped (sequence lead s
 
 -- an ASCII byte: what follows it decides
 pub utf8-ascii-cons : (b : ℕ) (s : List ℕ) → b < 0x80 → utf8 (b ∷ s) ≡ utf8 s
-utf8-ascii-cons b s h =
-    let e : sequence b s ≡ 1 = sequence-ascii b s h in
-    utf8-cons b s (omega arith) ∙ ap (λ (n : ℕ). utf8 (drop (n - 1) s)) e
+utf8-ascii-cons b s h = utf8-cons b s 1 (sequence-ascii b s h)
 
 -- past a part of a run of ASCII, what follows decides
 utf8-run : (k : ℕ) (s : List ℕ) → k ≤ ascii_run s → utf8 (drop k s) ≡ utf8 s
@@ -88,19 +87,23 @@ module _ {s : List ℕ} {at : ℕ} (r : Checked s at) where
     high = rw (← get_or-drop at s (ascii_run (drop at s)) 0) (run_end (drop at s) (omega (arith, length-drop at s)));
   }
 
-  -- the next sequence has n bytes
-  module _ (h : at < length s) (n : ℕ) (e : n ≡ sequence (get_or s at 0) (drop (at + 1) s)) where
-    pub at-fault : n ≡ 0 → false ≡ utf8 s
-    at-fault z = sym (ap utf8 (at_place s at h) ∙ utf8-fault (get_or s at 0) (drop (at + 1) s) (sym e ∙ z)) ∙ r.decides
+  module _ (h : at < length s) where
+    -- no sequence begins there
+    pub at-fault : None ≡ sequence (get_or s at 0) (drop (at + 1) s) → false ≡ utf8 s
+    at-fault e = sym (ap utf8 (at_place s at h) ∙ utf8-fault (get_or s at 0) (drop (at + 1) s) (sym e)) ∙ r.decides
 
-    pub past-sequence : (n ≡ 0 → ⊥) → Checked s (at + n)
-    past-sequence p =
-        let sum : at + 1 + (n - 1) ≡ at + n = omega arith in
-        record {
-          within = omega (arith, sequence-le (get_or s at 0) (drop (at + 1) s), length-drop (at + 1) s);
-          decides =
-              sym (ap utf8 (at_place s at h) ∙ utf8-cons (get_or s at 0) (drop (at + 1) s) (λ z. p (e ∙ z))
-              ∙ ap (λ (m : ℕ). utf8 (drop (m - 1) (drop (at + 1) s))) (sym e) ∙ ap utf8 (drop-drop (n - 1) (at + 1) s)
-              ∙ ap (λ (m : ℕ). utf8 (drop m s)) sum)
-              ∙ r.decides;
-        }
+    -- the next sequence has n bytes
+    module _ (n : ℕ) (e : Some n ≡ sequence (get_or s at 0) (drop (at + 1) s)) where
+      pub has-bytes : 1 ≤ n
+      has-bytes = (sequence-size (get_or s at 0) (drop (at + 1) s) n (sym e)).0
+
+      pub past-sequence : Checked s (at + n)
+      past-sequence =
+          let sum : at + 1 + (n - 1) ≡ at + n = omega (arith, has-bytes) in
+          record {
+            within = omega (arith, (sequence-size (get_or s at 0) (drop (at + 1) s) n (sym e)).1, length-drop (at + 1) s);
+            decides =
+                sym (ap utf8 (at_place s at h) ∙ utf8-cons (get_or s at 0) (drop (at + 1) s) n (sym e) ∙ ap utf8 (drop-drop (n - 1) (at + 1) s)
+                ∙ ap (λ (m : ℕ). utf8 (drop m s)) sum)
+                ∙ r.decides;
+          }

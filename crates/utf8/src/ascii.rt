@@ -6,18 +6,12 @@ ghost use Rattle.utf8.specs.Private.Ascii.{all_below, ascii_run, little_endian};
 // The top bit of each of eight bytes.
 const TOP_BITS: u64 = 0x8080_8080_8080_8080;
 
-// The eight bytes from `at` on as one number, the first lowest: put together in this order, they are loaded at once.
+// The eight bytes from `at` on as one number, the first lowest: one load.
 fn word_at(bytes: &[u8], at: usize) -> u64
     requires { at + 8 ≤ length bytes.now }
     ensures { result ≡ little_endian (part bytes.now at 8) }
 {
-    let mut word: u64 = 0;
-    let mut i = 0;
-    while i < 8 {
-        word = word | ((bytes[at + i] as u64) << (8 * i));
-        i += 1;
-    }
-    word
+    u64::from_le_bytes(bytes[at..at + 8].try_into().unwrap())
 }
 
 // Whether the eight bytes from `at` on are ASCII.
@@ -33,11 +27,9 @@ fn is_ascii_block(bytes: &[u8], at: usize) -> bool
     requires { at + 64 ≤ length bytes.now }
     ensures { result ≡ all_below 0x80 (part bytes.now at 64) }
 {
-    let mut all: u64 = 0;
-    let mut i = 0;
-    while i < 8 {
-        all = all | word_at(bytes, at + 8 * i);
-        i += 1;
+    let mut all = 0;
+    for i in 0..8 {
+        all |= word_at(bytes, at + 8 * i);
     }
     all & TOP_BITS == 0
 }
@@ -48,6 +40,7 @@ fn past_blocks(bytes: &[u8], start: usize) -> usize
     ensures { result ≡ start + ascii_run (drop start bytes.now) / 64 * 64 }
 {
     let mut at = start;
+    // A while loop: the place moves by whole blocks, and no iterator says that more plainly.
     while 64 <= bytes.len() - at {
         if !is_ascii_block(bytes, at) {
             return at;
@@ -57,17 +50,16 @@ fn past_blocks(bytes: &[u8], start: usize) -> usize
     at
 }
 
-// Past the run of ASCII at the front of the `count` bytes from `start` on, one by one. Where the count is named, the loop is unrolled.
+// Past the run of ASCII at the front of the `count` bytes from `start` on, one by one. Where the count is named, the loop is unrolled. No
+// `position`, which takes a fifth more instructions over up to seven bytes.
 fn past_bytes(bytes: &[u8], start: usize, count: usize) -> usize
     requires { start + count ≤ length bytes.now }
     ensures { result ≡ start + ascii_run (part bytes.now start count) }
 {
-    let mut i = 0;
-    while i < count {
+    for i in 0..count {
         if 0x80 <= bytes[start + i] {
             return start + i;
         }
-        i += 1;
     }
     start + count
 }
@@ -86,6 +78,7 @@ pub fn ascii_end(bytes: &[u8], start: usize) -> usize
         return start + 1;
     }
     let mut at = start;
+    // A while loop: the place moves by eight bytes and then by whole blocks.
     while 8 <= bytes.len() - at {
         if !is_ascii_word(bytes, at) {
             return past_bytes(bytes, at, 7);

@@ -9,20 +9,21 @@ use borrow.Author.Tests.{lt-ltb}
 use lib.Dec.{eqb}
 use lib.ListN.{length, get_or, take, drop}
 use lib.Seq.{take-nil, take-take, take-length, drop-drop}
+use Rattle.std.specs.Prelude.{Result, Ok}
 use Rattle.slices.specs.Parts.{part}
+use Rattle.refusal.specs.declared.Fault.{Fault}
 use Rattle.slices.proofs.Parts.{get_d_part}
 use Rattle.utf8.specs.Utf8.{utf8}
 use Rattle.numbers.specs.BigEndian.{big_endian}
 use Rattle.numbers.specs.TwosComplement.{twos}
 use Rattle.numbers.specs.Access.{unsigned_at}
-use Rattle.numbers.specs.declared.Unsigned.TheVariants as U
 use Rattle.numbers.proofs.Access.{unsigned-found, unsigned-number}
 use Rattle.markers.specs.Value as Tree
 use Rattle.markers.specs.Value.{Value, Items, no_items, Entries, no-entries, relocate, relocate_items, relocate_entries}
 use Rattle.markers.specs.Marker.{marker_of}
 use Rattle.markers.specs.Private.Sizes.{has_size}
 use Rattle.values.specs.Decode.{Parse, parsed, mapped, is_text, leaf_value, KeyText, repeats, key_at, items, entries, value_at}
-use Rattle.markers.specs.Extents.{size_at, extent_at, key_extent_at}
+use Rattle.markers.specs.Extents.{span, size_at, extent_at, key_extent_at}
 use Rattle.values.specs.Private.Embedding.{Lies, ReadAlike, Claim}
 use Rattle.markers.specs.declared.kind.Leaf.{Leaf}
 use Rattle.markers.specs.declared.kind.Leaf.TheVariants as L
@@ -32,18 +33,16 @@ use Rattle.markers.specs.declared.marker.Kind.{Kind}
 use Rattle.markers.specs.declared.marker.Kind.TheVariants as K
 use Rattle.markers.specs.declared.marker.Marker.{Marker}
 use Rattle.markers.specs.declared.extent.Extent.{Extent}
+use Rattle.markers.specs.declared.extent.Span.{Span}
 use Rattle.markers.specs.declared.extent.Extent.TheVariants as E
 use Rattle.markers.proofs.Offsets.{relocate-same}
 use Rattle.markers.proofs.Extents as X
 use Rattle.markers.proofs.Extents.{Marked, ExtentTells, extent-tells, leaf-extent-is, container-extent-is, key-extent-is, key-as-string, Inside, extent-inside, room_for}
 use Rattle.values.proofs.Leaves.{boolean-size, leaf-text}
 use Rattle.values.proofs.KeySearch as Keys
-use Rattle.values.proofs.KeySearch.{KeyTells, key-tells, key-is, leaf-key-inside}
+use Rattle.values.proofs.KeySearch.{KeyTells, key-tells, key-is, key-lies}
 use Rattle.values.proofs.Steps as Steps
 use Rattle.values.proofs.Steps.{first-item, first_entry_lem, ValueTells, value_tells, by-leaf, by-container}
-
-clash : ◌≡◌ {A = ℕ} 0 1 → ⊥
-clash e = omega arith
 
 -- a drop of a take
 drop-take : (p n : ℕ) (l : List ℕ) → drop p (take n l) ≡ take (n - p) (drop p l)
@@ -65,18 +64,18 @@ module _ (s t : List ℕ) (k : ℕ) (lies : Lies s t k) where
       ∙ ap (λ (l : List ℕ). take n (drop p l)) lies.bytes
 
   -- ---- extents
-  sized : (at : ℕ) (m : Marker) (n : ℕ) → U.Number n ≡ size_at s at m → U.Number n ≡ size_at t (k + at) m
+  sized : (at : ℕ) (m : Marker) (n : ℕ) → Ok n ≡ size_at s at m → Ok n ≡ size_at t (k + at) m
   sized at m n e = by (eqb m.width 0) e
     where
-      by : (b : Bool) → U.Number n ≡ cond b (U.Number m.size) (unsigned_at s (at + m.skip) m.width)
-          → U.Number n ≡ cond b (U.Number m.size) (unsigned_at t (k + at + m.skip) m.width)
+      by : (b : Bool) → Ok n ≡ cond b (Ok m.size) (unsigned_at s (at + m.skip) m.width)
+          → Ok n ≡ cond b (Ok m.size) (unsigned_at t (k + at + m.skip) m.width)
       by true e = e
       by false e =
           let f = unsigned-found s (at + m.skip) m.width n e in
           let i = f.1.inside in
           let a : k + at + m.skip ≡ k + (at + m.skip) = omega arith in
           rw a
-          (ap U.Number (f.0 ∙ ap big_endian (sym (piece (at + m.skip) m.width i)))
+          (ap Ok (f.0 ∙ ap big_endian (sym (piece (at + m.skip) m.width i)))
           ∙ unsigned-number t (k + (at + m.skip)) m.width (record { width = f.1.width; inside = omega (arith, lies.inside) }))
 
   marked : (at : ℕ) (j : Kind) (m : Marker) (n : ℕ) → Marked s at j m n → Marked t (k + at) j m n
@@ -88,32 +87,32 @@ module _ (s t : List ℕ) (k : ℕ) (lies : Lies s t k) where
         size = sized at m n w.size;
       }
 
-  pub leaf-embeds : (d e at : ℕ) (j : Leaf) (p n : ℕ) → E.Leaf j p n ≡ extent_at s d at → E.Leaf j (k + p) n ≡ extent_at t e (k + at)
+  pub leaf-embeds : (d e at : ℕ) (j : Leaf) (p n : ℕ) → Ok (E.Leaf j p n) ≡ extent_at s d at → Ok (E.Leaf j (k + p) n) ≡ extent_at t e (k + at)
   leaf-embeds d e at j p n x = by (extent-tells s d at) x
     where
-      by : {y : Extent} → ExtentTells s d at y → E.Leaf j p n ≡ y → E.Leaf j (k + p) n ≡ extent_at t e (k + at)
+      by : {y : Result Extent Fault} → ExtentTells s d at y → Ok (E.Leaf j p n) ≡ y → Ok (E.Leaf j (k + p) n) ≡ extent_at t e (k + at)
       by (X.leaf i m r w h) x =
           let a : j ≡ i = cc x in
           let b : p ≡ at + m.skip + m.width = cc x in
           let c : n ≡ r = cc x in
           let f : k + p ≡ k + at + m.skip + m.width = omega arith in
           rw (a, c, f) (leaf-extent-is t e (k + at) i m r (marked at (K.Leaf i) m r w) (omega (arith, lies.inside, h)))
-      by (X.container i m r w h) x = let z : ◌≡◌ {A = ℕ} 0 1 = cc x in absurd (clash z)
-      by (X.none why place) x = let z : ◌≡◌ {A = ℕ} 0 1 = cc x in absurd (clash z)
+      by (X.container i m r w h) x = cc x
+      by (X.none fault) x = cc x
 
-  pub container-embeds : (d e at : ℕ) (j : Container) (p n : ℕ) → d ≤ e → E.Container j p n ≡ extent_at s d at
-      → E.Container j (k + p) n ≡ extent_at t e (k + at)
+  pub container-embeds : (d e at : ℕ) (j : Container) (p n : ℕ) → d ≤ e → Ok (E.Container j p n) ≡ extent_at s d at
+      → Ok (E.Container j (k + p) n) ≡ extent_at t e (k + at)
   container-embeds d e at j p n l x = by (extent-tells s d at) x
     where
-      by : {y : Extent} → ExtentTells s d at y → E.Container j p n ≡ y → E.Container j (k + p) n ≡ extent_at t e (k + at)
+      by : {y : Result Extent Fault} → ExtentTells s d at y → Ok (E.Container j p n) ≡ y → Ok (E.Container j (k + p) n) ≡ extent_at t e (k + at)
       by (X.container i m r w h) x =
           let a : j ≡ i = cc x in
           let b : p ≡ at + m.skip + m.width = cc x in
           let c : n ≡ r = cc x in
           let f : k + p ≡ k + at + m.skip + m.width = omega arith in
           rw (a, c, f) (container-extent-is t e (k + at) i m r (marked at (K.Container i) m r w) (omega arith))
-      by (X.leaf i m r w h) x = let z : ◌≡◌ {A = ℕ} 0 1 = cc x in absurd (clash z)
-      by (X.none why place) x = let z : ◌≡◌ {A = ℕ} 0 1 = cc x in absurd (clash z)
+      by (X.leaf i m r w h) x = cc x
+      by (X.none fault) x = cc x
 
   -- ---- leaves and keys
   abbrev moved : ℕ → ℕ
@@ -132,38 +131,39 @@ module _ (s t : List ℕ) (k : ℕ) (lies : Lies s t k) where
   abbrev moved_key : KeyText → KeyText
   moved_key x = record { start = k + x.start; content = x.content }
 
-  key-leaf-embeds : (at : ℕ) (j : Leaf) (p n : ℕ) → E.Leaf j p n ≡ key_extent_at s at → E.Leaf L.String (k + p) n ≡ key_extent_at t (k + at)
-  key-leaf-embeds at j p n x = by (extent-tells s 0 at) (key-as-string s at j p n 0 x)
+  key-span-embeds : (at : ℕ) (x : Span) → Ok x ≡ key_extent_at s at → Ok (span (k + x.start) x.size) ≡ key_extent_at t (k + at)
+  key-span-embeds at x e = by (extent-tells s 0 at) (key-as-string s at x 0 e)
     where
-      by : {y : Extent} → ExtentTells s 0 at y → E.Leaf L.String p n ≡ y → E.Leaf L.String (k + p) n ≡ key_extent_at t (k + at)
-      by (X.leaf i m r w h) x =
-          let a : L.String ≡ i = cc x in
-          let b : p ≡ at + m.skip + m.width = cc x in
-          let c : n ≡ r = cc x in
-          let f : k + p ≡ k + at + m.skip + m.width = omega arith in
+      by : {y : Result Extent Fault} → ExtentTells s 0 at y → Ok (E.Leaf L.String x.start x.size) ≡ y → Ok (span (k + x.start) x.size) ≡ key_extent_at t (k + at)
+      by (X.leaf i m r w h) e =
+          let a : L.String ≡ i = cc e in
+          let b : x.start ≡ at + m.skip + m.width = cc e in
+          let c : x.size ≡ r = cc e in
+          let f : k + x.start ≡ k + at + m.skip + m.width = omega arith in
           rw (c, f)
           (key-extent-is t (k + at) m r (marked at (K.Leaf L.String) m r (subst (λ (l : Leaf). Marked s at (K.Leaf l) m r) (sym a) w))
           (omega (arith, lies.inside, h)))
-      by (X.container i m r w h) x = let z : ◌≡◌ {A = ℕ} 0 1 = cc x in absurd (clash z)
-      by (X.none why place) x = let z : ◌≡◌ {A = ℕ} 0 1 = cc x in absurd (clash z)
+      by (X.container i m r w h) e = cc e
+      by (X.none fault) e = cc e
 
-  key-new-embeds : (seen : List (List ℕ)) (at : ℕ) (j : Leaf) (p n : ℕ) → E.Leaf j p n ≡ key_extent_at s at → utf8 (part s p n) ≡ true
-      → repeats (part s p n) seen ≡ false → key_at t seen (k + at) ≡ parsed (record { start = k + p; content = part s p n }) (k + (p + n))
-  key-new-embeds seen at j p n y f g =
-      let h = piece p n (leaf-key-inside s seen at j p n y) in
-      let a : k + p + n ≡ k + (p + n) = omega arith in
-      key-is t seen (k + at) L.String (k + p) n (key-leaf-embeds at j p n y) (ap utf8 h ∙ f) (ap (λ (l : List ℕ). repeats l seen) h ∙ g)
-      ∙ ap₂ (λ (l : List ℕ) (q : ℕ). parsed (record { start = k + p; content = l }) q) h a
+  key-new-embeds : (seen : List (List ℕ)) (at : ℕ) (x : Span) → Ok x ≡ key_extent_at s at → utf8 (part s x.start x.size) ≡ true
+      → repeats (part s x.start x.size) seen ≡ false
+      → key_at t seen (k + at) ≡ parsed (record { start = k + x.start; content = part s x.start x.size }) (k + (x.start + x.size))
+  key-new-embeds seen at x y f g =
+      let h = piece x.start x.size (key-lies s seen at x y) in
+      let a : k + x.start + x.size ≡ k + (x.start + x.size) = omega arith in
+      key-is t seen (k + at) (span (k + x.start) x.size) (key-span-embeds at x y) (ap utf8 h ∙ f) (ap (λ (l : List ℕ). repeats l seen) h ∙ g)
+      ∙ ap₂ (λ (l : List ℕ) (q : ℕ). parsed (record { start = k + x.start; content = l }) q) h a
 
   pub key-embeds : (seen : List (List ℕ)) (at : ℕ) (x : KeyText) (q : ℕ) → key_at s seen at ≡ parsed x q → key_at t seen (k + at) ≡ parsed (moved_key x) (k + q)
   key-embeds seen at x q e = by (key-tells s seen at) e
     where
       by : {g : Parse KeyText} → KeyTells s seen at g → g ≡ parsed x q → key_at t seen (k + at) ≡ parsed (moved_key x) (k + q)
-      by (Keys.none why place) e = let z : ◌≡◌ {A = ℕ} 0 1 = cc e in absurd (clash z)
-      by (Keys.new j p n y f g) e =
-          let a : ◌≡◌ {A = KeyText} (record { start = p; content = part s p n }) x = cc e in
-          let b : p + n ≡ q = cc e in
-          rw (← a, ← b) (key-new-embeds seen at j p n y f g)
+      by (Keys.none why place) e = cc e
+      by (Keys.new j y f g) e =
+          let a : ◌≡◌ {A = KeyText} (record { start = j.start; content = part s j.start j.size }) x = cc e in
+          let b : j.start + j.size ≡ q = cc e in
+          rw (← a, ← b) (key-new-embeds seen at j y f g)
 
   -- ---- items, entries, values
   module _ (f g : ℕ → Parse Value) (same : (p : ℕ) (v : Value) (q : ℕ) → f p ≡ parsed v q → g (k + p) ≡ parsed (relocate moved v) (k + q)) where
@@ -187,7 +187,7 @@ module _ (s t : List ℕ) (k : ℕ) (lies : Lies s t k) where
       (inner : 1 ≤ d → (p : ℕ) (v : Value) (q : ℕ) → value_at s (d - 1) p ≡ parsed v q → value_at t (e - 1) (k + p) ≡ parsed (relocate moved v) (k + q)) where
     value-step : (at : ℕ) {g : Parse Value} → ValueTells s d at g → (v : Value) (q : ℕ) → g ≡ parsed v q → value_at t e (k + at) ≡ parsed (relocate moved v) (k + q)
     unfolding relocate
-    value-step at (Steps.none why place) v q f = let z : ◌≡◌ {A = ℕ} 0 1 = cc f in absurd (clash z)
+    value-step at (Steps.none why place) v q f = cc f
     value-step at (Steps.leaf j p n x h) v q f =
         let i = subst (Inside s at) (sym x) (extent-inside s at d) in
         let a : leaf_value s j p n ≡ v = cc f in
@@ -250,12 +250,12 @@ module _ (s t : List ℕ) (lies : Lies s t 0) (d e : ℕ) (l : d ≤ e) (at : �
       ap (value_at t e) (sym (none_before at)) ∙ g ∙ ap₂ (λ (w : Value) (n : ℕ). parsed w n) (relocate-same (λ n. 0 + n) none_before v) (none_before q)
 
 module _ (s : List ℕ) (d e at : ℕ) where
-  pub leaf-any-room : (j : Leaf) (p n : ℕ) → E.Leaf j p n ≡ extent_at s d at → E.Leaf j p n ≡ extent_at s e at
+  pub leaf-any-room : (j : Leaf) (p n : ℕ) → Ok (E.Leaf j p n) ≡ extent_at s d at → Ok (E.Leaf j p n) ≡ extent_at s e at
   leaf-any-room j p n x =
       let g = leaf-embeds s s 0 (lies-itself s) d e at j p n x in
-      ap (λ (q : ℕ). E.Leaf j q n) (sym (none_before p)) ∙ g ∙ ap (extent_at s e) (none_before at)
+      ap (λ (q : ℕ). Ok (E.Leaf j q n)) (sym (none_before p)) ∙ g ∙ ap (extent_at s e) (none_before at)
 
-  pub container-more-room : d ≤ e → (j : Container) (p n : ℕ) → E.Container j p n ≡ extent_at s d at → E.Container j p n ≡ extent_at s e at
+  pub container-more-room : d ≤ e → (j : Container) (p n : ℕ) → Ok (E.Container j p n) ≡ extent_at s d at → Ok (E.Container j p n) ≡ extent_at s e at
   container-more-room l j p n x =
       let g = container-embeds s s 0 (lies-itself s) d e at j p n l x in
-      ap (λ (q : ℕ). E.Container j q n) (sym (none_before p)) ∙ g ∙ ap (extent_at s e) (none_before at)
+      ap (λ (q : ℕ). Ok (E.Container j q n)) (sym (none_before p)) ∙ g ∙ ap (extent_at s e) (none_before at)

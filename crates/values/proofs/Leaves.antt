@@ -1,19 +1,17 @@
 -- Laws of values that hold no other. Assumes nothing.
-use mathlib.Core.Path.{◌≡◌, refl, sym, ap}
+use mathlib.Core.Path.{◌≡◌, refl, ap}
 use mathlib.Core.Bool.{Bool, true, false, cond}
 use mathlib.Core.List.{List}
 use Prim.Native.Nat.{ℕ, ◌+◌, ◌≤◌}
 use borrow.Author.Tests.{eqb-true}
 use lib.Dec.{eqb}
-use lib.IntN.{ℤ}
 use lib.ListN.{length, get_or}
+use Rattle.std.specs.Prelude.{Ok}
 use Rattle.slices.specs.Parts.{part}
 use Rattle.slices.proofs.Parts.{length_part}
 use Rattle.numbers.specs.Access.{is_width, unsigned_at, signed_at}
 use Rattle.numbers.specs.BigEndian.{big_endian}
 use Rattle.numbers.specs.TwosComplement.{twos}
-use Rattle.numbers.specs.declared.Unsigned.TheVariants as U
-use Rattle.numbers.specs.declared.Signed.TheVariants as Sg
 use Rattle.numbers.proofs.Access.{unsigned-number, signed-number}
 use Rattle.refusal.specs.declared.Refusal.TheVariants.{InvalidUtf8}
 use Rattle.markers.specs.Private.Sizes.{has_size}
@@ -24,11 +22,11 @@ use Rattle.markers.specs.declared.kind.Leaf.TheVariants as L
 use Rattle.values.specs.declared.head.Head.TheVariants as H
 
 -- a read of bytes that are there finds a number
-pub unsigned-there : (s : List ℕ) (at : ℕ) → at + 8 ≤ length s → ((x : ℕ) → unsigned_at s at 8 ≡ U.Number x → ⊥) → ⊥
-unsigned-there s at h e = e _ (sym (unsigned-number s at 8 (record { width = refl; inside = h })))
+pub unsigned-there : (s : List ℕ) (at : ℕ) → at + 8 ≤ length s → Ok (big_endian (part s at 8)) ≡ unsigned_at s at 8
+unsigned-there s at h = unsigned-number s at 8 (record { width = refl; inside = h })
 
-pub signed-there : (s : List ℕ) (at k : ℕ) → at + k ≤ length s → is_width k ≡ true → ((x : ℤ) → signed_at s at k ≡ Sg.Number x → ⊥) → ⊥
-signed-there s at k h w e = e _ (sym (signed-number s at k (record { width = w; inside = h })))
+pub signed-there : (s : List ℕ) (at k : ℕ) → at + k ≤ length s → is_width k ≡ true → Ok (twos k (big_endian (part s at k))) ≡ signed_at s at k
+signed-there s at k h w = signed-number s at k (record { width = w; inside = h })
 
 -- ---- heads, one for each kind
 module _ (s : List ℕ) (k : Leaf) (p n : ℕ) where

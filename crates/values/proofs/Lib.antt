@@ -1,6 +1,5 @@
 pub mod Leaves
 pub mod KeySearch
-pub mod Scratch
 pub mod Steps
 pub mod Places
 pub mod Passing

@@ -7,13 +7,12 @@ use lib.Dec.{leb, ltb, eqb}
 use lib.ListN.{length, get_or}
 use native.Mathlib.Omega.{arith}
 use borrow.Author.Tests.{eqb-true, leb-true, le-leb}
+use Rattle.std.specs.Prelude.{Result, Ok, Err}
 use Rattle.slices.specs.Parts.{part, reaches}
-use Rattle.numbers.specs.declared.Unsigned.{Unsigned}
-use Rattle.numbers.specs.declared.Unsigned.TheVariants as U
+use Rattle.numbers.specs.declared.ReadError.{ReadError}
 use Rattle.utf8.specs.Utf8.{utf8}
-use Rattle.refusal.specs.Answer.{Answer, returned, refused, Refuses, Placed, has_place, among}
-use Rattle.refusal.specs.Numbers.{number_of}
-use Rattle.refusal.specs.declared.Refusal.TheVariants.{TooLong, ValueTruncated, TooDeep, InvalidUtf8, KeyNotString, DuplicateKey, TrailingBytes}
+use Rattle.refusal.specs.Answer.{Answer, returned, refused, Refuses, Placed, has_place, among, told_at}
+use Rattle.refusal.specs.declared.Refusal.TheVariants.{TooLong, ValueTruncated, TooDeep, InvalidUtf8, DuplicateKey, TrailingBytes}
 use Rattle.markers.specs.Value.{Value, item, entry, list, dictionary, structure}
 use Rattle.markers.specs.Marker.{marker_of, is_string}
 use Rattle.markers.specs.declared.kind.Leaf.{Leaf}
@@ -22,65 +21,65 @@ use Rattle.markers.specs.declared.kind.Container.TheVariants as C
 use Rattle.markers.specs.declared.marker.Kind.{Kind}
 use Rattle.markers.specs.declared.marker.Kind.TheVariants as K
 use Rattle.markers.specs.declared.marker.Marker.{Marker}
+use Rattle.refusal.specs.declared.Fault.{Fault}
 use Rattle.markers.specs.declared.extent.Extent.{Extent}
+use Rattle.markers.specs.declared.extent.Span.{Span}
 use Rattle.markers.specs.declared.extent.Extent.TheVariants as E
-use Rattle.markers.specs.Extents.{size_at, on_size, leaf_extent, container_extent, kind_extent, extent_at, key_kind_extent, key_extent_at, most_open}
+use Rattle.markers.specs.Extents.{size_at, on_size, leaf_span, as_leaf, leaf_extent, container_extent, kind_extent, missing, extent_at, key_kind_extent, key_extent_at, most_open}
 use Rattle.bolt.specs.Limits.{most_bytes}
-use Rattle.values.specs.Decode.{Parse, parsed, failed, and_then, mapped, leaf_value, is_text, leaf_at, items, repeats, KeyText, key_of, key_at, entries, container_at, value_of, value_at, value_in, whole, message_of, answer_of, decode}
+use Rattle.values.specs.Decode.{Parse, parsed, failed, and_then, mapped, leaf_value, is_text, leaf_at, items, repeats, key_of, key_at, entries, container_at, value_of, value_at, value_in, whole, message_of, answer_of, decode}
 use Rattle.values.specs.Places.{value_fault, Claim}
 
 -- ---- extents
-abbrev FaultyExtent : Extent → Type 0
-FaultyExtent (E.Leaf k p n) = Unit {0}
-FaultyExtent (E.Container k p n) = Unit {0}
-FaultyExtent (E.Refused why place) = value_fault (number_of why) place ≡ true
+abbrev Faulty : {A : Type 0} → Result A Fault → Type 0
+Faulty r = Refuses value_fault (told_at r)
 
-chosen : (b : Bool) (x y : Extent) → FaultyExtent x → FaultyExtent y → FaultyExtent (cond b x y)
+chosen : {A : Type 0} (b : Bool) (x y : Result A Fault) → Faulty x → Faulty y → Faulty (cond b x y)
 chosen true x y p q = p
 chosen false x y p q = q
 
-on-size : (at : ℕ) (u : Unsigned) (f : ℕ → Extent) → ((n : ℕ) → FaultyExtent (f n)) → FaultyExtent (on_size at u f)
-on-size at (U.Number n) f h = h n
-on-size at U.OutOfBounds f h = refl
-on-size at U.InvalidWidth f h = refl
+on-size : {A : Type 0} (at : ℕ) (u : Result ℕ ReadError) (f : ℕ → Result A Fault) → ((n : ℕ) → Faulty (f n)) → Faulty (on_size at u f)
+on-size at (Ok n) f h = h n
+on-size at (Err why) f h = refl
 
 module _ (s : List ℕ) (at : ℕ) (m : Marker) where
-  leaf-extent : (k : Leaf) → FaultyExtent (leaf_extent s at k m)
-  unfolding leaf_extent
-  leaf-extent k =
-      on-size at (size_at s at m) (λ n.
-      cond (reaches s (at + m.skip + m.width) n) (E.Leaf k (at + m.skip + m.width) n) (E.Refused ValueTruncated at))
-      (λ n. chosen (reaches s (at + m.skip + m.width) n) (E.Leaf k (at + m.skip + m.width) n) (E.Refused ValueTruncated at) tt refl)
+  leaf-span : Faulty (leaf_span s at m)
+  unfolding leaf_span
+  leaf-span = on-size at (size_at s at m) _ (λ n. chosen (reaches s (at + m.skip + m.width) n) _ _ tt refl)
 
-  container-extent : (k : Container) → FaultyExtent (container_extent s at k m)
+  leaf-extent : (k : Leaf) → Faulty (leaf_extent s at k m)
+  leaf-extent k = by (leaf_span s at m) leaf-span
+    where
+      by : (r : Result Span Fault) → Faulty r → Faulty (as_leaf k r)
+      by (Ok p) h = tt
+      by (Err fault) h = h
+
+  container-extent : (k : Container) → Faulty (container_extent s at k m)
   unfolding container_extent
-  container-extent k = on-size at (size_at s at m) (λ n. E.Container k (at + m.skip + m.width) n) (λ n. tt)
+  container-extent k = on-size at (size_at s at m) _ (λ n. tt)
 
-  kind-extent : (depth : ℕ) (k : Kind) → FaultyExtent (kind_extent s depth at m k)
+  kind-extent : (depth : ℕ) (k : Kind) → Faulty (kind_extent s depth at m k)
   kind-extent depth K.Reserved = refl
   kind-extent depth (K.Leaf k) = leaf-extent k
-  kind-extent depth (K.Container k) =
-      chosen (eqb depth 0) (E.Refused TooDeep at) (container_extent s at k m) refl (container-extent k)
+  kind-extent depth (K.Container k) = chosen (eqb depth 0) _ (container_extent s at k m) refl (container-extent k)
 
-  key-kind-extent : (k : Kind) → FaultyExtent (key_kind_extent s at m k)
+  key-kind-extent : (k : Kind) → Faulty (key_kind_extent s at m k)
   key-kind-extent K.Reserved = refl
-  key-kind-extent (K.Leaf k) = chosen (is_string k) (leaf_extent s at k m) (E.Refused KeyNotString at) (leaf-extent k) refl
+  key-kind-extent (K.Leaf k) = chosen (is_string k) (leaf_span s at m) _ leaf-span refl
   key-kind-extent (K.Container k) = refl
 
 module _ (s : List ℕ) (at : ℕ) where
-  extent-placed : (depth : ℕ) → FaultyExtent (extent_at s depth at)
+  extent-placed : (depth : ℕ) → Faulty (extent_at s depth at)
   unfolding extent_at
   extent-placed depth =
       let m : Marker = marker_of (get_or s at 0) in
-      chosen (ltb at (length s)) (kind_extent s depth at m m.kind) (E.Refused ValueTruncated (length s)) (kind-extent s at m depth m.kind)
-      refl
+      chosen (ltb at (length s)) (kind_extent s depth at m m.kind) (Err (missing s)) (kind-extent s at m depth m.kind) refl
 
-  key-extent-placed : FaultyExtent (key_extent_at s at)
+  key-extent-placed : Faulty (key_extent_at s at)
   unfolding key_extent_at
   key-extent-placed =
       let m : Marker = marker_of (get_or s at 0) in
-      chosen (ltb at (length s)) (key_kind_extent s at m m.kind) (E.Refused ValueTruncated (length s)) (key-kind-extent s at m m.kind)
-      refl
+      chosen (ltb at (length s)) (key_kind_extent s at m m.kind) (Err (missing s)) (key-kind-extent s at m m.kind) refl
 
 -- ---- parses
 abbrev FaultyParse : {A : Type 0} → Parse A → Type 0
@@ -104,13 +103,11 @@ unfolding leaf_at
 leaf-placed s at k p n =
     picked (is_text k (part s p n)) (parsed (leaf_value s k p n) (p + n)) (failed InvalidUtf8 at) tt refl
 
-key-of : (s : List ℕ) (seen : List (List ℕ)) (at : ℕ) (x : Extent) → FaultyExtent x → FaultyParse (key_of s seen at x)
-key-of s seen at (E.Leaf k p n) h =
-    let read : Parse KeyText = parsed (record { start = p; content = part s p n }) (p + n) in
-    picked (utf8 (part s p n)) (cond (repeats (part s p n) seen) (failed DuplicateKey at) read) (failed InvalidUtf8 at)
-    (picked (repeats (part s p n) seen) (failed DuplicateKey at) read refl tt) refl
-key-of s seen at (E.Container k p n) h = refl
-key-of s seen at (E.Refused why place) h = h
+key-of : (s : List ℕ) (seen : List (List ℕ)) (at : ℕ) (x : Result Span Fault) → Faulty x → FaultyParse (key_of s seen at x)
+key-of s seen at (Ok k) h =
+    picked (utf8 (part s k.start k.size)) _ (failed InvalidUtf8 at)
+    (picked (repeats (part s k.start k.size) seen) (failed DuplicateKey at) _ refl tt) refl
+key-of s seen at (Err fault) h = h
 
 key-placed : (s : List ℕ) (seen : List (List ℕ)) (at : ℕ) → FaultyParse (key_at s seen at)
 unfolding key_at
@@ -141,10 +138,10 @@ module _ (s : List ℕ) (f : ℕ → Parse Value) (h : (p : ℕ) → FaultyParse
       picked (ltb p (length s)) fields (failed ValueTruncated at) (map-placed (structure (get_or s p 0)) (items f n (p + 1)) (items-placed n (p + 1)))
       refl
 
-  value-of : (at : ℕ) (x : Extent) → FaultyExtent x → FaultyParse (value_of s f at x)
-  value-of at (E.Leaf k p n) e = leaf-placed s at k p n
-  value-of at (E.Container k p n) e = container-placed at k p n
-  value-of at (E.Refused why place) e = e
+  value-of : (at : ℕ) (x : Result Extent Fault) → Faulty x → FaultyParse (value_of s f at x)
+  value-of at (Ok (E.Leaf k p n)) e = leaf-placed s at k p n
+  value-of at (Ok (E.Container k p n)) e = container-placed at k p n
+  value-of at (Err fault) e = e
 
 value-placed : (s : List ℕ) (depth at : ℕ) → FaultyParse (value_at s depth at)
 unfolding value_at

@@ -8,7 +8,10 @@ use native.Mathlib.Omega.{arith}
 use borrow.Author.Tests.{lt-ltb, le-ltb, ltb-true}
 use lib.Dec.{ltb}
 use lib.ListN.{length, get_or}
+use Rattle.std.specs.Prelude.{Result, Ok, Err}
 use Rattle.slices.specs.Parts.{part}
+use Rattle.refusal.specs.declared.Fault.{Fault}
+use Rattle.refusal.specs.Answer.{placed}
 use Rattle.refusal.specs.declared.Refusal.{Refusal}
 use Rattle.refusal.specs.declared.Refusal.TheVariants.{ValueTruncated, TooDeep, InvalidUtf8}
 use Rattle.markers.specs.Value as Tree
@@ -17,12 +20,12 @@ use Rattle.values.specs.Decode.{Parse, parsed, failed, and_then, mapped, is_text
 use Rattle.markers.specs.Extents.{extent_at}
 use Rattle.values.specs.Private.Steps.{step_of}
 use Rattle.markers.specs.declared.kind.Leaf.{Leaf}
+use Rattle.markers.specs.declared.kind.Leaf.TheVariants as L
 use Rattle.markers.specs.declared.kind.Container.{Container}
 use Rattle.markers.specs.declared.kind.Container.TheVariants as C
 use Rattle.markers.specs.declared.extent.Extent.{Extent}
 use Rattle.markers.specs.declared.extent.Extent.TheVariants as E
-use Rattle.values.specs.declared.step.Step.TheVariants as S
-use Rattle.markers.proofs.Extents.{Inside, extent-inside, key-inside, room_for}
+use Rattle.markers.proofs.Extents.{Inside, SpanInside, extent-inside, key-inside, room_for}
 use Rattle.values.proofs.Leaves.{leaf-text, leaf-no-text}
 use Rattle.values.proofs.KeySearch as Keys
 use Rattle.values.proofs.KeySearch.{KeyTells, key-tells}
@@ -57,7 +60,7 @@ pub past-key : (s : List ℕ) (seen : List (List ℕ)) (at : ℕ) → Past (leng
 past-key s seen at = by (key-tells s seen at)
   where
     by : {g : Parse KeyText} → KeyTells s seen at g → Past (length s) at g
-    by (Keys.new k p n x f h) = let i = subst (Inside s at) (sym x) (key-inside s at) in (i.past, i.inside)
+    by (Keys.new k x f h) = let i = subst (SpanInside s at L.String) (sym x) (key-inside s at) in (i.past, i.inside)
     by (Keys.none why place) = tt
 
 module _ (n : ℕ) (f : ℕ → Parse Value) (past : (p : ℕ) → Past n p (f p)) where
@@ -79,17 +82,17 @@ module _ (s : List ℕ) (f : ℕ → Parse Value) (past : (p : ℕ) → Past (le
       (λ v r lt2 le2. reaches-mapped (length s) r (entry p k.start k.content q v) (entries s f (k.content ∷ seen) m r)
       (reaches-entries (k.content ∷ seen) m r le2)))
 
-  past_of : (at : ℕ) (x : Extent) → Inside s at x → Past (length s) at (value_of s f at x)
+  past_of : (at : ℕ) (x : Result Extent Fault) → Inside s at x → Past (length s) at (value_of s f at x)
   unfolding leaf_at
-  past_of at (E.Leaf k p n) i = by (is_text k (part s p n))
+  past_of at (Ok (E.Leaf k p n)) i = by (is_text k (part s p n))
     where
       by : (t : Bool) → Past (length s) at (cond t (parsed (leaf_value s k p n) (p + n)) (failed InvalidUtf8 at))
       by true = (i.past, i.inside)
       by false = tt
-  past_of at (E.Container C.List p n) i = past-mapped (length s) at Tree.list p i.past (items f n p) (reaches-items (length s) f past n p i.inside)
-  past_of at (E.Container C.Dictionary p n) i =
+  past_of at (Ok (E.Container C.List p n)) i = past-mapped (length s) at Tree.list p i.past (items f n p) (reaches-items (length s) f past n p i.inside)
+  past_of at (Ok (E.Container C.Dictionary p n)) i =
       past-mapped (length s) at Tree.dictionary p i.past (entries s f [] n p) (reaches-entries [] n p i.inside)
-  past_of at (E.Container C.Structure p n) i = by (ltb p (length s)) refl
+  past_of at (Ok (E.Container C.Structure p n)) i = by (ltb p (length s)) refl
     where
       by : (t : Bool) → ltb p (length s) ≡ t
           → Past (length s) at (cond t (mapped (Tree.structure (get_or s p 0)) (items f n (p + 1))) (failed ValueTruncated at))
@@ -98,7 +101,7 @@ module _ (s : List ℕ) (f : ℕ → Parse Value) (past : (p : ℕ) → Past (le
           past-mapped (length s) at (Tree.structure (get_or s p 0)) (p + 1) (omega (arith, i.past)) (items f n (p + 1))
           (reaches-items (length s) f past n (p + 1) (omega arith))
       by false e = tt
-  past_of at (E.Refused why place) i = tt
+  past_of at (Err fault) i = tt
 
 -- a value ends past its marker and inside the message
 pub past_value : (s : List ℕ) (depth at : ℕ) → Past (length s) at (value_at s depth at)
@@ -107,16 +110,13 @@ past_value s zero at = past_of s (λ p. failed TooDeep p) (λ p. tt) at (extent_
 past_value s (suc depth) at = past_of s (λ p. value_at s depth p) (λ p. past_value s depth p) at (extent_at s (suc depth) at) (extent-inside s at (suc depth))
 
 -- ---- what a reader's answer tells of the reading
-clash : ◌≡◌ {A = ℕ} 0 1 → ⊥
-clash e = omega arith
-
-pub step-to : {A : Type 0} (g : Parse A) (q : ℕ) → S.To q ≡ step_of g → (a : A) × (g ≡ parsed a q)
+pub step-to : {A : Type 0} (g : Parse A) (q : ℕ) → Ok q ≡ step_of g → (a : A) × (g ≡ parsed a q)
 step-to (parsed a p) q e = let i : q ≡ p = cc e in (a, ap (parsed a) (sym i))
-step-to (failed why place) q e = let z : ◌≡◌ {A = ℕ} 0 1 = cc e in absurd (clash z)
+step-to (failed why place) q e = cc e
 
-pub step-refused : {A : Type 0} (g : Parse A) (why : Refusal) (q : ℕ) → S.Refused why q ≡ step_of g → g ≡ failed why q
-step-refused (parsed a p) why q e = let z : ◌≡◌ {A = ℕ} 0 1 = cc e in absurd (clash z)
-step-refused (failed w p) why q e = let a : why ≡ w = cc e in let b : q ≡ p = cc e in rw (a, b)
+pub step-refused : {A : Type 0} (g : Parse A) (fault : Fault) → Err fault ≡ step_of g → g ≡ failed fault.refusal fault.place
+step-refused (parsed a p) fault e = cc e
+step-refused (failed w p) fault e = let f : fault ≡ placed w p = cc e in rw f
 
 -- what is made of it does not matter
 pub step-mapped : {A B : Type 0} (w : A → B) (g : Parse A) → step_of (mapped w g) ≡ step_of g
@@ -128,43 +128,43 @@ value-bounds s depth at v q e = subst (Past (length s) at) e (past_value s depth
 
 -- ---- a value by its extent
 module _ (s : List ℕ) (depth at : ℕ) where
-  pub by-leaf : (k : Leaf) (p n : ℕ) → E.Leaf k p n ≡ extent_at s depth at → leaf_at s at k p n ≡ value_at s depth at
+  pub by-leaf : (k : Leaf) (p n : ℕ) → Ok (E.Leaf k p n) ≡ extent_at s depth at → leaf_at s at k p n ≡ value_at s depth at
   unfolding value_at
   by-leaf k p n e = by depth e
     where
-      by : (d : ℕ) → E.Leaf k p n ≡ extent_at s d at → leaf_at s at k p n ≡ value_at s d at
+      by : (d : ℕ) → Ok (E.Leaf k p n) ≡ extent_at s d at → leaf_at s at k p n ≡ value_at s d at
       by zero e = ap (value_of s (λ p. failed TooDeep p) at) e
       by (suc d) e = ap (value_of s (λ p. value_at s d p) at) e
 
-  pub by-refused : (why : Refusal) (place : ℕ) → E.Refused why place ≡ extent_at s depth at → failed why place ≡ value_at s depth at
+  pub by-refused : (fault : Fault) → Err fault ≡ extent_at s depth at → failed fault.refusal fault.place ≡ value_at s depth at
   unfolding value_at
-  by-refused why place e = by depth e
+  by-refused fault e = by depth e
     where
-      by : (d : ℕ) → E.Refused why place ≡ extent_at s d at → failed why place ≡ value_at s d at
+      by : (d : ℕ) → Err fault ≡ extent_at s d at → failed fault.refusal fault.place ≡ value_at s d at
       by zero e = ap (value_of s (λ p. failed TooDeep p) at) e
       by (suc d) e = ap (value_of s (λ p. value_at s d p) at) e
 
-  pub by-container : (k : Container) (p n : ℕ) → E.Container k p n ≡ extent_at s depth at → container_at s (value_at s (depth - 1)) at k p n ≡ value_at s depth at
+  pub by-container : (k : Container) (p n : ℕ) → Ok (E.Container k p n) ≡ extent_at s depth at → container_at s (value_at s (depth - 1)) at k p n ≡ value_at s depth at
   unfolding value_at
   by-container k p n e = by depth e (room_for s depth at k p n e)
     where
-      by : (d : ℕ) → E.Container k p n ≡ extent_at s d at → 1 ≤ d → container_at s (value_at s (d - 1)) at k p n ≡ value_at s d at
+      by : (d : ℕ) → Ok (E.Container k p n) ≡ extent_at s d at → 1 ≤ d → container_at s (value_at s (d - 1)) at k p n ≡ value_at s d at
       by zero e l = absurd (omega arith)
       by (suc d) e l =
           let m : suc d - 1 ≡ d = omega arith in
           ap (λ (j : ℕ). container_at s (value_at s j) at k p n) m ∙ ap (value_of s (λ p. value_at s d p) at) e
 
   -- a container of the kind that was found
-  pub container-as : (k j : Container) (p n : ℕ) → k ≡ j → E.Container k p n ≡ extent_at s depth at
+  pub container-as : (k j : Container) (p n : ℕ) → k ≡ j → Ok (E.Container k p n) ≡ extent_at s depth at
       → container_at s (value_at s (depth - 1)) at j p n ≡ value_at s depth at
   container-as k j p n f e = ap (λ (i : Container). container_at s (value_at s (depth - 1)) at i p n) (sym f) ∙ by-container k p n e
 
   -- a List is read through its items, a Dictionary through its entries
-  pub by-items : (k : Container) (p n : ℕ) → k ≡ C.List → E.Container k p n ≡ extent_at s depth at
+  pub by-items : (k : Container) (p n : ℕ) → k ≡ C.List → Ok (E.Container k p n) ≡ extent_at s depth at
       → step_of (items (value_at s (depth - 1)) n p) ≡ step_of (value_at s depth at)
   by-items k p n f e = sym (step-mapped Tree.list (items (value_at s (depth - 1)) n p)) ∙ ap step_of (container-as k C.List p n f e)
 
-  pub by_entries_lem : (k : Container) (p n : ℕ) → k ≡ C.Dictionary → E.Container k p n ≡ extent_at s depth at
+  pub by_entries_lem : (k : Container) (p n : ℕ) → k ≡ C.Dictionary → Ok (E.Container k p n) ≡ extent_at s depth at
       → step_of (entries s (value_at s (depth - 1)) [] n p) ≡ step_of (value_at s depth at)
   by_entries_lem k p n f e =
       sym (step-mapped Tree.dictionary (entries s (value_at s (depth - 1)) [] n p)) ∙ ap step_of (container-as k C.Dictionary p n f e)
@@ -179,7 +179,7 @@ module _ (f : ℕ → Parse Value) (n start : ℕ) where
   items-none = let z : n - 0 ≡ n = omega arith in rw z
 
   module _ (i p : ℕ) (so_far : ItemsLeft f n start i p) where
-    pub items-done : n ≤ i → step_of (items f n start) ≡ S.To p
+    pub items-done : n ≤ i → step_of (items f n start) ≡ Ok p
     unfolding items
     items-done h = let z : n - i ≡ 0 = omega arith in so_far ∙ rw z
 
@@ -190,9 +190,9 @@ module _ (f : ℕ → Parse Value) (n start : ℕ) where
           let m : n - i ≡ suc (n - (i + 1)) = omega arith in
           so_far ∙ rw (m, e) (step-mapped (item p v) (items f (n - (i + 1)) q))
 
-      pub items-stop : (why : Refusal) (q : ℕ) → f p ≡ failed why q → step_of (items f n start) ≡ S.Refused why q
+      pub items-stop : (fault : Fault) → f p ≡ failed fault.refusal fault.place → step_of (items f n start) ≡ Err fault
       unfolding items
-      items-stop why q e = let m : n - i ≡ suc (n - (i + 1)) = omega arith in so_far ∙ rw (m, e)
+      items-stop fault e = let m : n - i ≡ suc (n - (i + 1)) = omega arith in so_far ∙ rw (m, e)
 
 -- of n entries i are read, with the keys `seen`
 abbrev pub EntriesLeft : List ℕ → (ℕ → Parse Value) → ℕ → ℕ → ℕ → ℕ → List (List ℕ) → Type 0
@@ -203,19 +203,19 @@ module _ (s : List ℕ) (f : ℕ → Parse Value) (n start : ℕ) where
   entries_none = let z : n - 0 ≡ n = omega arith in rw z
 
   module _ (i p : ℕ) (seen : List (List ℕ)) (so_far : EntriesLeft s f n start i p seen) where
-    pub entries-done : n ≤ i → step_of (entries s f [] n start) ≡ S.To p
+    pub entries-done : n ≤ i → step_of (entries s f [] n start) ≡ Ok p
     unfolding entries
     entries-done h = let z : n - i ≡ 0 = omega arith in so_far ∙ rw z
 
     module _ (h : i < n) where
-      pub entries-stop : (why : Refusal) (q : ℕ) → key_at s seen p ≡ failed why q → step_of (entries s f [] n start) ≡ S.Refused why q
+      pub entries-stop : (fault : Fault) → key_at s seen p ≡ failed fault.refusal fault.place → step_of (entries s f [] n start) ≡ Err fault
       unfolding entries
-      entries-stop why q e = let m : n - i ≡ suc (n - (i + 1)) = omega arith in so_far ∙ rw (m, e)
+      entries-stop fault e = let m : n - i ≡ suc (n - (i + 1)) = omega arith in so_far ∙ rw (m, e)
 
       module _ (k : KeyText) (q : ℕ) (key : key_at s seen p ≡ parsed k q) where
-        pub entries-halt : (why : Refusal) (r : ℕ) → f q ≡ failed why r → step_of (entries s f [] n start) ≡ S.Refused why r
+        pub entries-halt : (fault : Fault) → f q ≡ failed fault.refusal fault.place → step_of (entries s f [] n start) ≡ Err fault
         unfolding entries
-        entries-halt why r e = let m : n - i ≡ suc (n - (i + 1)) = omega arith in so_far ∙ rw (m, key, e)
+        entries-halt fault e = let m : n - i ≡ suc (n - (i + 1)) = omega arith in so_far ∙ rw (m, key, e)
 
         pub entries_next : (v : Value) (r : ℕ) → f q ≡ parsed v r → EntriesLeft s f n start (i + 1) r (k.content ∷ seen)
         unfolding entries
@@ -227,11 +227,11 @@ module _ (s : List ℕ) (f : ℕ → Parse Value) (n start : ℕ) where
 pub then-parsed : {A B : Type 0} (g : Parse A) (k : A → ℕ → Parse B) (b : B) (q : ℕ) → and_then g k ≡ parsed b q
     → (a : A) × (p : ℕ) × (g ≡ parsed a p) × (k a p ≡ parsed b q)
 then-parsed (parsed a p) k b q e = (a, p, refl, e)
-then-parsed (failed why place) k b q e = let z : ◌≡◌ {A = ℕ} 0 1 = cc e in absurd (clash z)
+then-parsed (failed why place) k b q e = cc e
 
 pub mapped-parsed : {A B : Type 0} (w : A → B) (g : Parse A) (b : B) (q : ℕ) → mapped w g ≡ parsed b q → (a : A) × (g ≡ parsed a q) × (b ≡ w a)
 mapped-parsed w (parsed a p) b q e = let i : p ≡ q = cc e in let j : w a ≡ b = cc e in (a, ap (parsed a) i, sym j)
-mapped-parsed w (failed why place) b q e = let z : ◌≡◌ {A = ℕ} 0 1 = cc e in absurd (clash z)
+mapped-parsed w (failed why place) b q e = cc e
 
 -- an item, and those after it
 pub record FirstItem (f : ℕ → Parse Value) (n at : ℕ) (vs : Items) (end : ℕ) : Type 0 where
@@ -291,7 +291,7 @@ entries-count s f seen (suc n) p es q e =
 
 -- ---- a Structure: its tag, and its fields
 module _ (s : List ℕ) (f : ℕ → Parse Value) (at p n : ℕ) where
-  pub no-tag : length s ≤ p → S.Refused ValueTruncated at ≡ step_of (structure_at s f at p n)
+  pub no-tag : length s ≤ p → Err (placed ValueTruncated at) ≡ step_of (structure_at s f at p n)
   no-tag h = rw (le-ltb p (length s) h)
 
   pub by-fields : p < length s → step_of (items f n (p + 1)) ≡ step_of (structure_at s f at p n)
@@ -299,13 +299,13 @@ module _ (s : List ℕ) (f : ℕ → Parse Value) (at p n : ℕ) where
 
 -- ---- what the reading of a value tells
 pub data ValueTells (s : List ℕ) (depth at : ℕ) : Parse Value → Type 0 where
-  leaf : (k : Leaf) (p n : ℕ) → E.Leaf k p n ≡ extent_at s depth at → is_text k (part s p n) ≡ true
+  leaf : (k : Leaf) (p n : ℕ) → Ok (E.Leaf k p n) ≡ extent_at s depth at → is_text k (part s p n) ≡ true
       → ValueTells s depth at (parsed (leaf_value s k p n) (p + n))
-  list : (p n : ℕ) (vs : Items) (end : ℕ) → E.Container C.List p n ≡ extent_at s depth at → items (value_at s (depth - 1)) n p ≡ parsed vs end
+  list : (p n : ℕ) (vs : Items) (end : ℕ) → Ok (E.Container C.List p n) ≡ extent_at s depth at → items (value_at s (depth - 1)) n p ≡ parsed vs end
       → ValueTells s depth at (parsed (Tree.list vs) end)
-  dictionary : (p n : ℕ) (es : Entries) (end : ℕ) → E.Container C.Dictionary p n ≡ extent_at s depth at
+  dictionary : (p n : ℕ) (es : Entries) (end : ℕ) → Ok (E.Container C.Dictionary p n) ≡ extent_at s depth at
       → entries s (value_at s (depth - 1)) [] n p ≡ parsed es end → ValueTells s depth at (parsed (Tree.dictionary es) end)
-  structure : (p n : ℕ) (vs : Items) (end : ℕ) → E.Container C.Structure p n ≡ extent_at s depth at → p < length s
+  structure : (p n : ℕ) (vs : Items) (end : ℕ) → Ok (E.Container C.Structure p n) ≡ extent_at s depth at → p < length s
       → items (value_at s (depth - 1)) n (p + 1) ≡ parsed vs end → ValueTells s depth at (parsed (Tree.structure (get_or s p 0) vs) end)
   none : (why : Refusal) (place : ℕ) → ValueTells s depth at (failed why place)
 
@@ -315,20 +315,20 @@ module _ (s : List ℕ) (depth at : ℕ) where
   mapped-tells w (parsed a end) h = h a end refl
   mapped-tells w (failed why place) h = none why place
 
-  value-by-extent : (x : Extent) → x ≡ extent_at s depth at → ValueTells s depth at (value_at s depth at)
-  value-by-extent (E.Leaf k p n) e = subst (ValueTells s depth at) (by-leaf s depth at k p n e) (by (is_text k (part s p n)) refl)
+  value-by-extent : (x : Result Extent Fault) → x ≡ extent_at s depth at → ValueTells s depth at (value_at s depth at)
+  value-by-extent (Ok (E.Leaf k p n)) e = subst (ValueTells s depth at) (by-leaf s depth at k p n e) (by (is_text k (part s p n)) refl)
     where
       by : (t : Bool) → is_text k (part s p n) ≡ t → ValueTells s depth at (leaf_at s at k p n)
       by true f = subst (ValueTells s depth at) (sym (leaf-text s at k p n f)) (leaf k p n e f)
       by false f = subst (ValueTells s depth at) (sym (leaf-no-text s at k p n f)) (none InvalidUtf8 at)
-  value-by-extent (E.Refused why place) e = subst (ValueTells s depth at) (by-refused s depth at why place e) (none why place)
-  value-by-extent (E.Container C.List p n) e =
+  value-by-extent (Err fault) e = subst (ValueTells s depth at) (by-refused s depth at fault e) (none fault.refusal fault.place)
+  value-by-extent (Ok (E.Container C.List p n)) e =
       subst (ValueTells s depth at) (by-container s depth at C.List p n e)
       (mapped-tells Tree.list (items (value_at s (depth - 1)) n p) (λ vs end f. list p n vs end e f))
-  value-by-extent (E.Container C.Dictionary p n) e =
+  value-by-extent (Ok (E.Container C.Dictionary p n)) e =
       subst (ValueTells s depth at) (by-container s depth at C.Dictionary p n e)
       (mapped-tells Tree.dictionary (entries s (value_at s (depth - 1)) [] n p) (λ es end f. dictionary p n es end e f))
-  value-by-extent (E.Container C.Structure p n) e =
+  value-by-extent (Ok (E.Container C.Structure p n)) e =
       subst (ValueTells s depth at) (by-container s depth at C.Structure p n e) (by (ltb p (length s)) refl)
     where
       by : (t : Bool) → ltb p (length s) ≡ t

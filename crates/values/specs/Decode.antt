@@ -1,13 +1,14 @@
 -- The value that a message is, or the refusal: document 01, "Values", "Checks at one value, in order". Assumes nothing.
-use Rattle.std.specs.Prelude.{ℕ, zero, suc, ◌+◌, Bool, true, false, cond, ◌||◌, List, [], ◌∷◌, ltb, eqb, length, get_or}
+use Rattle.std.specs.Prelude.{ℕ, zero, suc, ◌+◌, Bool, true, false, cond, ◌||◌, List, [], ◌∷◌, ltb, eqb, length, get_or, Result, Ok, Err}
 use Rattle.slices.specs.Parts.{part}
 use Rattle.numbers.specs.BigEndian.{big_endian}
 use Rattle.numbers.specs.TwosComplement.{twos}
 use Rattle.utf8.specs.Utf8.{utf8}
 use Rattle.refusal.specs.Numbers.{number_of}
 use Rattle.refusal.specs.Answer.{Answer, returned, refused}
+use Rattle.refusal.specs.declared.Fault.{Fault}
 use Rattle.refusal.specs.declared.Refusal.{Refusal}
-use Rattle.refusal.specs.declared.Refusal.TheVariants.{TooLong, ValueTruncated, TooDeep, InvalidUtf8, KeyNotString, DuplicateKey, TrailingBytes}
+use Rattle.refusal.specs.declared.Refusal.TheVariants.{TooLong, ValueTruncated, TooDeep, InvalidUtf8, DuplicateKey, TrailingBytes}
 use Rattle.markers.specs.Value.{Value, null, boolean, integer, float, bytes, string, list, dictionary, structure, Items, no_items, item, Entries, no-entries, entry}
 use Rattle.markers.specs.Marker.{is_string}
 use Rattle.markers.specs.declared.kind.Leaf.TheVariants as L
@@ -16,6 +17,7 @@ use Rattle.markers.specs.declared.kind.Container.TheVariants as C
 use Rattle.markers.specs.declared.kind.Container.{Container}
 use Rattle.markers.specs.declared.extent.Extent.TheVariants as E
 use Rattle.markers.specs.declared.extent.Extent.{Extent}
+use Rattle.markers.specs.declared.extent.Span.{Span}
 use Rattle.markers.specs.Extents.{extent_at, key_extent_at, most_open}
 use Rattle.bolt.specs.Limits.{most_bytes}
 use Rattle.slices.specs.Equality.{same}
@@ -70,13 +72,13 @@ pub record KeyText : Type 0 where
   pub content : List ℕ
 
 -- the String's checks, "then 12"
-abbrev pub key_of : List ℕ → List (List ℕ) → ℕ → Extent → Parse KeyText
-key_of s seen at (E.Leaf k p n) =
-    cond (utf8 (part s p n))
-    (cond (repeats (part s p n) seen) (failed DuplicateKey at) (parsed (record { start = p; content = part s p n }) (p + n)))
+abbrev pub key_of : List ℕ → List (List ℕ) → ℕ → Result Span Fault → Parse KeyText
+key_of s seen at (Ok k) =
+    cond (utf8 (part s k.start k.size))
+    (cond (repeats (part s k.start k.size) seen) (failed DuplicateKey at)
+    (parsed (record { start = k.start; content = part s k.start k.size }) (k.start + k.size)))
     (failed InvalidUtf8 at)
-key_of s seen at (E.Container k p n) = failed KeyNotString at
-key_of s seen at (E.Refused why place) = failed why place
+key_of s seen at (Err fault) = failed fault.refusal fault.place
 
 -- the key at `at`; `seen` are the keys before it in this dictionary
 unfoldable pub key_at : List ℕ → List (List ℕ) → ℕ → Parse KeyText
@@ -101,10 +103,10 @@ container_at s f at C.Dictionary p n = mapped dictionary (entries s f [] n p)
 container_at s f at C.Structure p n = structure_at s f at p n
 
 -- the value at an extent; f reads what a container holds
-abbrev pub value_of : List ℕ → (ℕ → Parse Value) → ℕ → Extent → Parse Value
-value_of s f at (E.Leaf k p n) = leaf_at s at k p n
-value_of s f at (E.Container k p n) = container_at s f at k p n
-value_of s f at (E.Refused why place) = failed why place
+abbrev pub value_of : List ℕ → (ℕ → Parse Value) → ℕ → Result Extent Fault → Parse Value
+value_of s f at (Ok (E.Leaf k p n)) = leaf_at s at k p n
+value_of s f at (Ok (E.Container k p n)) = container_at s f at k p n
+value_of s f at (Err fault) = failed fault.refusal fault.place
 
 -- the value at `at`, with room for so many open containers
 unfoldable pub value_at : List ℕ → ℕ → ℕ → Parse Value

@@ -7,8 +7,7 @@ use Rattle.values.specs.Decode.{Parse, parsed, failed}
 use Rattle.markers.specs.Extents.{most_open}
 use Rattle.values.specs.declared.head.Head.TheVariants as H
 use Rattle.values.specs.declared.head.Head.{Head}
-use Rattle.values.specs.declared.read.Reading.TheVariants as R
-use Rattle.values.specs.declared.read.Reading.{Reading}
+use Rattle.values.specs.declared.read.Found.{Found}
 
 -- the head of a value that ends at `end`: its kind, and what it holds or where that lies
 unfoldable pub head_of : Value → ℕ → Head
@@ -23,18 +22,9 @@ head_of (dictionary es) end = H.Dictionary (first_entry es end) (count_entries e
 head_of (structure tag vs) end = H.Structure tag (first vs end) (count vs)
 
 -- ---- what is told of a value: its head, and the offset past it
-pub record Found : Type 0 where
-  pub head : Head
-  pub end : ℕ
-
 -- of this value, ending here
 abbrev pub found_at : ℕ → Value → Found
 found_at end v = record { head = head_of v end; end = end }
-
--- the code's answer in the paper's terms
-abbrev pub told : Reading → Answer Found
-told (R.Value head end) = returned (record { head = head; end = end })
-told (R.Refused why place) = refused (number_of why) place
 
 -- what is told of a message: its value ends where the message does
 abbrev pub tell_message : List ℕ → Answer Value → Answer Found

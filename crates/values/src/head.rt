@@ -1,7 +1,7 @@
 // What a value is: document 01, "Values".
 
 // What a value is, with where its parts lie in the message.
-#[derive(Clone, Copy)]
+#[derive(Clone, Copy, Debug, PartialEq, Eq)]
 pub enum Head {
     Null,
     Boolean(bool),

@@ -5,6 +5,5 @@ pub mod head; // head.rt: what a value is
 mod keys; // keys.rt: keys, each compared with those before it
 mod leaf; // leaf.rt: values that hold no other
 pub mod read; // read.rt: messages, and the values in them
-mod step; // step.rt: how far a reader comes
 mod value; // value.rt: values inside each other
 pub mod walk; // walk.rt: from value to value, in a message that was read

@@ -1,34 +1,31 @@
 // Reading values inside each other: a value is read by the reader of its container, which reads each value that it holds in turn. The room for
 // open containers and the bytes that are left fall with every call; items and entries are read in loops, so that the stack grows with the
-// depth alone.
-ghost use Rattle.std.specs.Prelude.{◌≡◌, [], ◌≤◌, ◌<◌, length, take};
+// depth alone. Message, offset, depth and scratch are four parameters, since each call goes on with other offsets, depths and rests of the scratch.
+ghost use Rattle.std.specs.Prelude.{◌≡◌, [], ◌+◌, ◌*◌, ◌≤◌, ◌<◌, length};
 ghost use Rattle.values.specs.Decode.{items, entries, structure_at, value_at};
 ghost use Rattle.values.specs.Private.Keys.{Room};
 ghost use Rattle.values.specs.Private.Steps.{step_of};
 
 use crate::keys::{Key, read_key};
 use crate::leaf::read_leaf;
-use crate::step::{Step, refused};
-use markers::extent::{Extent, extent_at};
+use markers::extent::{Extent, Span, extent_at};
 use markers::kind::Container;
-use refusal::Refusal;
+use refusal::{Fault, Refusal};
 
-// Reads the value at `at`, with room for `depth` open containers. The scratch has, up to `top`, the keys of the dictionaries that are open; what
-// lies past `top` is free.
+// Reads the value at `at`, with room for `depth` open containers. What it holds is not put together: the answer is the offset past it. The
+// scratch is for keys: each dictionary puts its own at the front, and what it holds gets the rest.
 #[cycle(dictionary_list_structure_value)]
-pub fn value(message: &[u8], at: usize, depth: usize, scratch: &mut [u16], top: usize) -> Step
-    requires { Room (length message.now) (length scratch.old) at top }
-    ensures { (result ≡ step_of (value_at message.now depth at)) × (take top scratch.new ≡ take top scratch.old) }
+pub fn value(message: &[u8], at: usize, depth: usize, scratch: &mut [Key]) -> Result<usize, Fault>
+    requires { Room (length message.now) (length scratch.old) at }
+    ensures { result ≡ step_of (value_at message.now depth at) }
 {
-    let extent = extent_at(message, at, depth);
-    match extent {
+    match extent_at(message, at, depth)? {
         Extent::Leaf { kind, start, size } => read_leaf(message, at, kind, start, size),
         Extent::Container { kind, start, count } => match kind {
-            Container::List => list(message, start, count, depth - 1, scratch, top),
-            Container::Dictionary => dictionary(message, start, count, depth - 1, scratch, top),
-            Container::Structure => structure(message, at, start, count, depth - 1, scratch, top),
+            Container::List => list(message, start, count, depth - 1, scratch),
+            Container::Dictionary => dictionary(message, start, count, depth - 1, scratch),
+            Container::Structure => structure(message, at, start, count, depth - 1, scratch),
         },
-        Extent::Refused { refusal, place } => refused(refusal, place),
     }
 }
 
@@ -39,26 +36,19 @@ fn list(
     first: usize,
     count: usize,
     depth: usize,
-    scratch: &mut [u16],
-    top: usize,
-) -> Step
-    requires { Room (length message.now) (length scratch.old) first top }
-    ensures { (result ≡ step_of (items (value_at message.now depth) count first)) × (take top scratch.new ≡ take top scratch.old) }
+    scratch: &mut [Key],
+) -> Result<usize, Fault>
+    requires { Room (length message.now) (length scratch.old) first }
+    ensures { result ≡ step_of (items (value_at message.now depth) count first) }
 {
     let mut at = first;
-    let mut i = 0;
-    while i < count {
-        let item = value(message, at, depth, scratch, top);
-        match item {
-            Step::To(end) => at = end,
-            Step::Refused { refusal, place } => return refused(refusal, place),
-        }
-        i += 1;
+    for _ in 0..count {
+        at = value(message, at, depth, scratch)?;
     }
-    Step::To(at)
+    Ok(at)
 }
 
-// Reads the tag at `start` and the `count` fields after it of the Structure whose marker is at `marker`.
+// Reads the tag at `start` of the Structure whose marker is at `marker`, and the `count` fields after it.
 #[cycle(dictionary_list_structure_value)]
 fn structure(
     message: &[u8],
@@ -66,26 +56,15 @@ fn structure(
     start: usize,
     count: usize,
     depth: usize,
-    scratch: &mut [u16],
-    top: usize,
-) -> Step
-    requires { Room (length message.now) (length scratch.old) start top }
-    ensures { (result ≡ step_of (structure_at message.now (value_at message.now depth) marker start count)) × (take top scratch.new ≡ take top scratch.old) }
+    scratch: &mut [Key],
+) -> Result<usize, Fault>
+    requires { Room (length message.now) (length scratch.old) start }
+    ensures { result ≡ step_of (structure_at message.now (value_at message.now depth) marker start count) }
 {
     if message.len() <= start {
-        return refused(Refusal::ValueTruncated, marker);
+        return Err(Refusal::ValueTruncated.at(marker));
     }
-    let mut at = start + 1;
-    let mut i = 0;
-    while i < count {
-        let field = value(message, at, depth, scratch, top);
-        match field {
-            Step::To(end) => at = end,
-            Step::Refused { refusal, place } => return refused(refusal, place),
-        }
-        i += 1;
-    }
-    Step::To(at)
+    list(message, start + 1, count, depth, scratch)
 }
 
 // Reads the `count` entries of a Dictionary from `first` on.
@@ -95,30 +74,19 @@ fn dictionary(
     first: usize,
     count: usize,
     depth: usize,
-    scratch: &mut [u16],
-    top: usize,
-) -> Step
-    requires { Room (length message.now) (length scratch.old) first top × (top < first) × (first ≤ length message.now) }
-    ensures { (result ≡ step_of (entries message.now (value_at message.now depth) [] count first)) × (take top scratch.new ≡ take top scratch.old) }
+    scratch: &mut [Key],
+) -> Result<usize, Fault>
+    requires { Room (length message.now) (length scratch.old) first × (length message.now < first + 2 * length scratch.old) × (first ≤ length message.now) }
+    ensures { result ≡ step_of (entries message.now (value_at message.now depth) [] count first) }
 {
     let mut at = first;
-    let mut i = 0;
-    while i < count {
-        let key = read_key(message, at, &scratch[..], top, i);
-        match key {
-            Key::String { start, size } => {
-                let next = top + 2 * i;
-                scratch[next] = start as u16;
-                scratch[next + 1] = size as u16;
-                let item = value(message, start + size, depth, scratch, next + 2);
-                match item {
-                    Step::To(end) => at = end,
-                    Step::Refused { refusal, place } => return refused(refusal, place),
-                }
-            }
-            Key::Refused { refusal, place } => return refused(refusal, place),
-        }
-        i += 1;
+    for i in 0..count {
+        let Span { start, size } = read_key(message, at, &scratch[..i])?;
+        scratch[i] = Key {
+            start: start as u16,
+            size: size as u16,
+        };
+        at = value(message, start + size, depth, &mut scratch[i + 1..])?;
     }
-    Step::To(at)
+    Ok(at)
 }

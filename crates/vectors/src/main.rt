@@ -29,13 +29,13 @@ mod values_read;
 mod wire;
 
 use console::{input, output};
-use hex_lines::Decoded;
 use std::io;
 
 // What 16,384 bytes in chunks of one take: the largest room that a line may ask for.
 const LARGEST_ROOM: usize = 49154;
 
-// The numbers are hexadecimal, as everything in a line is.
+// The numbers are hexadecimal, as everything in a line is. A match on them: each operation is another function, and a table of them would be no
+// plainer.
 fn perform(rt: HostRuntime, operation: u8, operands: &[u8], space: &mut [u8]) -> io::Result<()> {
     match operation {
         0x01 => wire::negotiate(rt, operands),
@@ -52,30 +52,23 @@ fn perform(rt: HostRuntime, operation: u8, operands: &[u8], space: &mut [u8]) ->
 }
 
 fn run_vector(rt: HostRuntime, vector: &[u8], space: &mut [u8]) -> io::Result<()> {
-    if vector.len() == 0 {
-        return answers::no_vector(rt);
+    match vector {
+        [] => answers::no_vector(rt),
+        [operation, operands @ ..] => perform(rt, *operation, operands, space),
     }
-    perform(rt, vector[0], &vector[1..], space)
-}
-
-fn names_group(line: &[u8]) -> bool {
-    if line.len() == 0 {
-        return false;
-    }
-    line[0] == b'#'
 }
 
 fn run_line(rt: HostRuntime, line: &[u8], bytes: &mut [u8], space: &mut [u8]) -> io::Result<()> {
-    if names_group(line) {
+    if line.starts_with(b"#") {
         return output::text(rt, line);
     }
     match hex_lines::decode(line, bytes) {
-        Decoded::Bytes(n) => run_vector(rt, &bytes[0..n], space),
-        Decoded::Refused(_) => answers::no_vector(rt),
+        Ok(n) => run_vector(rt, &bytes[..n], space),
+        Err(_) => answers::no_vector(rt),
     }
 }
 
-// The input need not end, so the turns are counted down from a number that no run uses up.
+// The input need not end, so the turns are counted by a number that no run uses up.
 fn run(
     rt: HostRuntime,
     block: &mut [u8],
@@ -83,16 +76,12 @@ fn run(
     bytes: &mut [u8],
     space: &mut [u8],
 ) -> io::Result<()> {
-    let mut line = input::fresh();
-    let mut turns = u64::MAX;
-    while 0 < turns {
-        turns -= 1;
-        line = input::next(rt, line, block, held)?;
-        if !line.found {
-            return Ok(());
-        }
-        let size = line.size;
-        run_line(rt, &held[0..size], bytes, space)?;
+    let mut input = input::fresh();
+    for _ in 0..u64::MAX {
+        let Some(size) = input::next(rt, &mut input, block, held)? else {
+            break;
+        };
+        run_line(rt, &held[..size], bytes, space)?;
         output::line_end(rt)?;
     }
     Ok(())

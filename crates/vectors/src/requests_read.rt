@@ -9,9 +9,9 @@
 // 00 absent, 01 r or 02 w. What else is absent is all ones.
 use crate::{answers, wire};
 use console::output;
-use entries::view::{Mode, Place, Span, Text};
-use handshake::version::Proposal;
-use requests::request::{Batch, Number, Reading, Request, Transaction};
+use entries::view::Mode;
+use markers::extent::Span;
+use requests::request::{Batch, Request, Transaction};
 use std::io;
 
 fn show_span(rt: HostRuntime, span: Span) -> io::Result<()> {
@@ -19,39 +19,35 @@ fn show_span(rt: HostRuntime, span: Span) -> io::Result<()> {
     output::size(rt, span.size, 4)
 }
 
-fn show_text(rt: HostRuntime, text: Text) -> io::Result<()> {
+fn show_text(rt: HostRuntime, text: Option<Span>) -> io::Result<()> {
     match text {
-        Text::Absent => output::bytes(rt, &[0xFF; 8]),
-        Text::At(span) => show_span(rt, span),
+        Some(span) => show_span(rt, span),
+        None => output::bytes(rt, &[0xFF; 8]),
     }
 }
 
-fn show_place(rt: HostRuntime, place: Place) -> io::Result<()> {
+fn show_place(rt: HostRuntime, place: Option<usize>) -> io::Result<()> {
     match place {
-        Place::Absent => output::bytes(rt, &[0xFF; 4]),
-        Place::At(offset) => output::size(rt, offset, 4),
+        Some(offset) => output::size(rt, offset, 4),
+        None => output::bytes(rt, &[0xFF; 4]),
+    }
+}
+
+fn show_mode(rt: HostRuntime, mode: Option<Mode>) -> io::Result<()> {
+    match mode {
+        None => output::byte(rt, 0x00),
+        Some(Mode::Read) => output::byte(rt, 0x01),
+        Some(Mode::Write) => output::byte(rt, 0x02),
     }
 }
 
 // What RUN and BEGIN say of their transaction.
 fn show_transaction(rt: HostRuntime, transaction: Transaction) -> io::Result<()> {
-    let bookmarks = transaction.bookmarks;
-    let tx_timeout = transaction.tx_timeout;
-    let tx_metadata = transaction.tx_metadata;
-    let mode = transaction.mode;
-    let db = transaction.db;
-    show_place(rt, bookmarks)?;
-    match tx_timeout {
-        Number::Absent => output::signed(rt, -1)?,
-        Number::Is(number) => output::signed(rt, number)?,
-    }
-    show_place(rt, tx_metadata)?;
-    match mode {
-        Mode::Absent => output::byte(rt, 0x00)?,
-        Mode::Read => output::byte(rt, 0x01)?,
-        Mode::Write => output::byte(rt, 0x02)?,
-    }
-    show_text(rt, db)
+    show_place(rt, transaction.bookmarks)?;
+    output::signed(rt, transaction.tx_timeout.unwrap_or(-1))?;
+    show_place(rt, transaction.tx_metadata)?;
+    show_mode(rt, transaction.mode)?;
+    show_text(rt, transaction.db)
 }
 
 fn show_batch(rt: HostRuntime, tag: u8, batch: Batch) -> io::Result<()> {
@@ -100,20 +96,17 @@ fn show(rt: HostRuntime, request: Request) -> io::Result<()> {
 }
 
 pub fn read_request(rt: HostRuntime, operands: &[u8]) -> io::Result<()> {
-    if operands.len() < 1 {
-        return answers::no_vector(rt);
-    }
-    let Proposal::Known(version) = wire::version_of(operands[0]) else {
+    let [minor, message @ ..] = operands else {
         return answers::no_vector(rt);
     };
-    match requests::read::read_request(&operands[1..], version) {
-        Reading::Request(request) => {
+    let Some(version) = wire::version_of(*minor) else {
+        return answers::no_vector(rt);
+    };
+    match requests::read::read_request(message, version) {
+        Ok(request) => {
             output::byte(rt, 0x00)?;
             show(rt, request)
         }
-        Reading::Refused(fault) => {
-            let why = fault.refusal;
-            answers::refused_at(rt, why, fault.place)
-        }
+        Err(fault) => answers::refused(rt, fault),
     }
 }

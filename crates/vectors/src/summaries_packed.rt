@@ -11,41 +11,26 @@ use crate::{answers, operands};
 use console::output;
 use states::answers::{Failure, Summary};
 use std::io;
+use summaries::summary::summary_length;
 
-// Whether the operands name a summary, and nothing is missing or left over.
-pub fn names_summary(operands: &[u8]) -> bool {
-    if operands.len() == 0 {
-        return false;
-    }
-    match operands[0] {
-        0x02 => operands.len() == 2 && operands::is_boolean(operands, 1),
-        0x03 => operands.len() == 5,
-        0x00 | 0x01 | 0x04 | 0x05 | 0x06 => operands.len() == 1,
-        _ => false,
-    }
-}
-
-// The summary that they name.
-pub fn summary_of(operands: &[u8]) -> Summary {
-    match operands::byte_at(operands, 0) {
-        0x00 => Summary::Ignored,
-        0x01 => Summary::Success,
-        0x02 => Summary::HasMore(operands::boolean_at(operands, 1)),
-        0x03 => Summary::Stream((operands::number_at(operands, 1, 4) % 0x1_0000_0000) as u32),
-        0x04 => Summary::Failure(Failure::StreamsFull),
-        0x05 => Summary::Failure(Failure::StreamUnknown),
-        _ => Summary::Failure(Failure::EngineFailed),
+// The summary that the operands name, where nothing is missing or left over.
+pub fn summary_of(operands: &[u8]) -> Option<Summary> {
+    match operands {
+        [0x00] => Some(Summary::Ignored),
+        [0x01] => Some(Summary::Success),
+        [0x02, more @ ..] => operands::boolean_of(more).map(Summary::HasMore),
+        [0x03, a, b, c, d] => Some(Summary::Stream(u32::from_be_bytes([*a, *b, *c, *d]))),
+        [0x04] => Some(Summary::Failure(Failure::StreamsFull)),
+        [0x05] => Some(Summary::Failure(Failure::StreamUnknown)),
+        [0x06] => Some(Summary::Failure(Failure::EngineFailed)),
+        _ => None,
     }
 }
 
 pub fn show_length(rt: HostRuntime, operands: &[u8]) -> io::Result<()> {
-    if !names_summary(operands) {
+    let Some(summary) = summary_of(operands) else {
         return answers::no_vector(rt);
-    }
+    };
     output::byte(rt, 0x00)?;
-    output::size(
-        rt,
-        summaries::summary::summary_length(summary_of(operands)),
-        4,
-    )
+    output::size(rt, summary_length(summary), 4)
 }

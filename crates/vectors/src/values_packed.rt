@@ -5,38 +5,33 @@
 //     0B  Structure: tag (1) count (8)
 use crate::{answers, operands, summaries_packed};
 use console::output;
-use packing::Packed;
+use refusal::Refusal;
 use std::io;
+use summaries::summary::pack_summary;
 
 // The largest buffer that operation 1A shows.
 const LARGEST_BUFFER: usize = 256;
 
-// Whether the operands are what is packed, and nothing is missing or left over.
-fn names_value(what: u8, operands: &[u8]) -> bool {
-    match what {
-        0x06 => operands.len() == 1 && operands::is_boolean(operands, 0),
-        0x07 => operands.len() == 8,
-        0x08 => true,
-        0x09 => summaries_packed::names_summary(operands),
-        0x0A => operands.len() == 8,
-        0x0B => operands.len() == 9,
-        _ => false,
-    }
-}
-
-fn pack_value(what: u8, operands: &[u8], out: &mut [u8], at: usize) -> Packed {
-    match what {
-        0x06 => packing::pack_boolean(operands::boolean_at(operands, 0), out, at),
-        0x07 => packing::pack_integer(operands::signed_at(operands, 0), out, at),
-        0x08 => packing::pack_string(operands, out, at),
-        0x09 => summaries::summary::pack_summary(summaries_packed::summary_of(operands), out, at),
-        0x0A => packing::pack_dictionary(operands::size_at(operands, 0, 8), out, at),
-        _ => packing::pack_structure(
-            operands::byte_at(operands, 0),
+// Packs what the operands name, or answers None where something of it is missing or left over. A match on its number, as in `perform`.
+fn pack_value(
+    what: u8,
+    operands: &[u8],
+    out: &mut [u8],
+    at: usize,
+) -> Option<Result<usize, Refusal>> {
+    match (what, operands.len()) {
+        (0x06, _) => Some(packing::pack_boolean(operands::boolean_of(operands)?, out, at)),
+        (0x07, 8) => Some(packing::pack_integer(operands::signed_at(operands, 0), out, at)),
+        (0x08, _) => Some(packing::pack_string(operands, out, at)),
+        (0x09, _) => Some(pack_summary(summaries_packed::summary_of(operands)?, out, at)),
+        (0x0A, 8) => Some(packing::pack_dictionary(operands::size_at(operands, 0, 8), out, at)),
+        (0x0B, 9) => Some(packing::pack_structure(
+            operands[0],
             operands::size_at(operands, 1, 8),
             out,
             at,
-        ),
+        )),
+        _ => None,
     }
 }
 
@@ -48,35 +43,13 @@ pub fn pack(rt: HostRuntime, what: u8, operands: &[u8], space: &mut [u8]) -> io:
     if space.len() < room {
         return answers::no_vector(rt);
     }
-    if !names_value(what, &operands[4..]) {
-        return answers::no_vector(rt);
-    }
-    match pack_value(what, &operands[4..], &mut space[0..room], 0) {
-        Packed::To(end) => {
+    match pack_value(what, &operands[4..], &mut space[..room], 0) {
+        None => answers::no_vector(rt),
+        Some(Ok(end)) => {
             output::byte(rt, 0x00)?;
             output::front(rt, space, end)
         }
-        Packed::Refused(why) => answers::refused(rt, why),
-    }
-}
-
-fn pack_into(
-    rt: HostRuntime,
-    what: u8,
-    operands: &[u8],
-    buffer: &mut [u8],
-    at: usize,
-) -> io::Result<()> {
-    match pack_value(what, operands, buffer, at) {
-        Packed::To(end) => {
-            output::byte(rt, 0x00)?;
-            output::size(rt, end, 4)?;
-            output::bytes(rt, buffer)
-        }
-        Packed::Refused(why) => {
-            answers::refused(rt, why)?;
-            output::bytes(rt, buffer)
-        }
+        Some(Err(why)) => answers::refused(rt, why.into()),
     }
 }
 
@@ -84,15 +57,20 @@ pub fn pack_at(rt: HostRuntime, operands: &[u8]) -> io::Result<()> {
     if operands.len() < 9 {
         return answers::no_vector(rt);
     }
-    let what = operands[0];
-    if !names_value(what, &operands[9..]) {
-        return answers::no_vector(rt);
-    }
     let at = operands::size_at(operands, 1, 4);
     let room = operands::size_at(operands, 5, 4);
     if LARGEST_BUFFER < room {
         return answers::no_vector(rt);
     }
-    let mut buffer = [0xEEu8; LARGEST_BUFFER];
-    pack_into(rt, what, &operands[9..], &mut buffer[0..room], at)
+    let mut whole = [0xEEu8; LARGEST_BUFFER];
+    let buffer = &mut whole[..room];
+    match pack_value(operands[0], &operands[9..], buffer, at) {
+        None => return answers::no_vector(rt),
+        Some(Ok(end)) => {
+            output::byte(rt, 0x00)?;
+            output::size(rt, end, 4)?;
+        }
+        Some(Err(why)) => answers::refused(rt, why.into())?,
+    }
+    output::bytes(rt, buffer)
 }

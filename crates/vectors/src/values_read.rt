@@ -15,8 +15,6 @@ use crate::answers;
 use console::output;
 use std::io;
 use values::head::Head;
-use values::read::Reading;
-use values::walk::{Peeked, Skipped};
 
 fn show_content(rt: HostRuntime, kind: u8, start: usize, size: usize) -> io::Result<()> {
     output::byte(rt, kind)?;
@@ -46,13 +44,9 @@ fn show(rt: HostRuntime, head: Head) -> io::Result<()> {
         }
         Head::Bytes { start, size } => show_content(rt, 0x04, start, size),
         Head::String { start, size } => show_content(rt, 0x05, start, size),
-        Head::List { first: _, count } => show_count(rt, 0x06, count),
-        Head::Dictionary { first: _, count } => show_count(rt, 0x07, count),
-        Head::Structure {
-            tag,
-            first: _,
-            count,
-        } => {
+        Head::List { count, .. } => show_count(rt, 0x06, count),
+        Head::Dictionary { count, .. } => show_count(rt, 0x07, count),
+        Head::Structure { tag, count, .. } => {
             output::byte(rt, 0x08)?;
             output::byte(rt, tag)?;
             output::size(rt, count, 1)
@@ -62,71 +56,42 @@ fn show(rt: HostRuntime, head: Head) -> io::Result<()> {
 
 pub fn read_value(rt: HostRuntime, message: &[u8]) -> io::Result<()> {
     match values::read::read_message(message) {
-        Reading::Value { head, end: _ } => {
+        Ok(found) => {
             output::byte(rt, 0x00)?;
-            show(rt, head)
+            show(rt, found.head)
         }
-        Reading::Refused { refusal, place } => answers::refused_at(rt, refusal, place),
-    }
-}
-
-fn past(message: &[u8], at: usize) -> usize {
-    match values::walk::skip(message, at) {
-        Skipped::To(end) => end,
-        Skipped::Nothing => message.len(),
+        Err(fault) => answers::refused(rt, fault),
     }
 }
 
 // Where the next marker is: behind a value that holds no other, or the first thing that a container holds.
 fn next(message: &[u8], at: usize, head: Head) -> usize {
     match head {
-        Head::Null => past(message, at),
-        Head::Boolean(_) => past(message, at),
-        Head::Integer(_) => past(message, at),
-        Head::Float(_) => past(message, at),
-        Head::Bytes { start: _, size: _ } => past(message, at),
-        Head::String { start: _, size: _ } => past(message, at),
-        Head::List { first, count: _ } => first,
-        Head::Dictionary { first, count: _ } => first,
-        Head::Structure {
-            tag: _,
+        Head::List { first, .. } | Head::Dictionary { first, .. } | Head::Structure { first, .. } =>
             first,
-            count: _,
-        } => first,
+        _ => values::walk::skip(message, at).unwrap_or(message.len()),
     }
 }
 
-// Shows the value at `at`, and answers where the next marker is.
-fn step(rt: HostRuntime, message: &[u8], at: usize) -> io::Result<usize> {
-    match values::walk::peek(message, at) {
-        Peeked::Value(head) => {
-            show(rt, head)?;
-            Ok(next(message, at, head))
-        }
-        Peeked::Nothing => Ok(message.len()),
-    }
-}
-
-// There are at most as many values as bytes.
+// Shows each value, by the order of their markers. There are at most as many as bytes.
 fn show_all(rt: HostRuntime, message: &[u8]) -> io::Result<()> {
-    let mut turns = message.len();
     let mut at = 0;
-    while 0 < turns {
-        turns -= 1;
-        if message.len() <= at {
-            return Ok(());
-        }
-        at = step(rt, message, at)?;
+    for _ in 0..message.len() {
+        let Some(head) = values::walk::peek(message, at) else {
+            break;
+        };
+        show(rt, head)?;
+        at = next(message, at, head);
     }
     Ok(())
 }
 
 pub fn read_values(rt: HostRuntime, message: &[u8]) -> io::Result<()> {
     match values::read::read_message(message) {
-        Reading::Value { head: _, end: _ } => {
+        Ok(_) => {
             output::byte(rt, 0x00)?;
             show_all(rt, message)
         }
-        Reading::Refused { refusal, place } => answers::refused_at(rt, refusal, place),
+        Err(fault) => answers::refused(rt, fault),
     }
 }

@@ -2,23 +2,21 @@
 use crate::{answers, operands};
 use console::output;
 use framing::reader::Frame;
-use framing::writer::Written;
-use handshake::negotiation::Negotiation;
-use handshake::version::{Proposal, Version};
+use handshake::version::Version;
 use std::io;
 
 pub fn negotiate(rt: HostRuntime, input: &[u8]) -> io::Result<()> {
     match handshake::negotiation::negotiate(input) {
-        Negotiation::Agreed(version) => {
+        Ok(version) => {
             output::byte(rt, 0x00)?;
             output::bytes(rt, &version.to_bytes())
         }
-        Negotiation::Refused(why) => answers::refused(rt, why),
+        Err(why) => answers::refused(rt, why.into()),
     }
 }
 
 // The version that a minor names.
-pub fn version_of(minor: u8) -> Proposal {
+pub fn version_of(minor: u8) -> Option<Version> {
     Version::from_bytes([0, 0, minor, 4])
 }
 
@@ -30,21 +28,21 @@ pub fn read_frame(rt: HostRuntime, operands: &[u8], space: &mut [u8]) -> io::Res
     if space.len() < room {
         return answers::no_vector(rt);
     }
-    let Proposal::Known(version) = version_of(operands[0]) else {
+    let Some(version) = version_of(operands[0]) else {
         return answers::no_vector(rt);
     };
-    match framing::reader::read_frame(version, &operands[5..], &mut space[0..room]) {
-        Frame::Message { length, consumed } => {
+    match framing::reader::read_frame(version, &operands[5..], &mut space[..room]) {
+        Ok(Frame::Message { length, consumed }) => {
             output::byte(rt, 0x00)?;
             output::size(rt, length, 4)?;
             output::size(rt, consumed, 4)?;
             output::front(rt, space, length)
         }
-        Frame::KeepAlive => {
+        Ok(Frame::KeepAlive) => {
             output::byte(rt, 0x01)?;
             output::size(rt, 2, 4)
         }
-        Frame::Refused(why) => answers::refused(rt, why),
+        Err(why) => answers::refused(rt, why.into()),
     }
 }
 
@@ -57,11 +55,11 @@ pub fn write_chunks(rt: HostRuntime, operands: &[u8], space: &mut [u8]) -> io::R
         return answers::no_vector(rt);
     }
     let chunk_size = operands::size_at(operands, 0, 4);
-    match framing::writer::write_chunks(&operands[8..], chunk_size, &mut space[0..room]) {
-        Written::Bytes(n) => {
+    match framing::writer::write_chunks(&operands[8..], chunk_size, &mut space[..room]) {
+        Ok(n) => {
             output::byte(rt, 0x00)?;
             output::front(rt, space, n)
         }
-        Written::Refused(why) => answers::refused(rt, why),
+        Err(why) => answers::refused(rt, why.into()),
     }
 }

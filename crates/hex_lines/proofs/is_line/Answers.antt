@@ -1,22 +1,21 @@
--- `hex_lines::is_line` meets its contract. The loop's invariant: the line is one if what was seen and what is left of it are digits. Assumes nothing.
+-- `hex_lines::is_line` meets its contract. Assumes nothing.
 use mathlib.Core.Path.{sym}
-use native.Mathlib.Omega.{arith}
 use Rattle.hex_lines.proofs.Lines.{line-long, line-odd, line-even, seen_none, seen_next, seen_all}
 use Rattle.hex_lines.proofs.is_line.Goals as goal
+use Rattle.hex_lines.proofs.is_line.Goals.{then-line-gt-MOST_CHARACTERS-via-then-line-gt-MOST_CHARACTERS, then-line-gt-MOST_CHARACTERS-via-else-line-gt-MOST_CHARACTERS+then-line-ne0}
 
 pub returns-then-line-gt-MOST_CHARACTERS : goal.returns-then-line-gt-MOST_CHARACTERS
-returns-then-line-gt-MOST_CHARACTERS c = sym (line-long _ c.if-line-gt-MOST_CHARACTERS.true)
+returns-then-line-gt-MOST_CHARACTERS c =
+    elim c.then-line-gt-MOST_CHARACTERS.branch [
+      | then-line-gt-MOST_CHARACTERS-via-then-line-gt-MOST_CHARACTERS w ↦ sym (line-long _ w.if-line-gt-MOST_CHARACTERS.true)
+      | then-line-gt-MOST_CHARACTERS-via-else-line-gt-MOST_CHARACTERS+then-line-ne0 w ↦ sym (line-odd _ w.if-line-gt-MOST_CHARACTERS.false w.if-line-ne0.true)
+    ]
 
-pub returns-then-line-ne0 : goal.returns-then-line-ne0
-returns-then-line-ne0 c = sym (line-odd _ c.if-line-gt-MOST_CHARACTERS.false c.if-line-ne0.true)
+pub loop-c-init : goal.loop-c-init
+loop-c-init c = seen_none _ (line-even _ c.if-line-gt-MOST_CHARACTERS.false c.if-line-ne0.false)
 
-pub loop-i-init : goal.loop-i-init
-loop-i-init c = (omega arith, seen_none _ (line-even _ c.if-line-gt-MOST_CHARACTERS.false c.if-line-ne0.false))
-
-pub loop-i-preserved : goal.loop-i-preserved
-loop-i-preserved c =
-    let l = c.loop-i in
-    (omega arith, seen_next _ l.i l.others (omega arith) l.invariant.1 _ c.other_than_digit-others.ensures)
+pub loop-c-preserved : goal.loop-c-preserved
+loop-c-preserved c = let l = c.loop-c in seen_next _ l.c-index l.others c.loop-c-test.true l.invariant _ c.other_than_digit-others.ensures
 
 pub returns : goal.returns
-returns c = let l = c.loop-i in seen_all _ l.i l.others c.loop-i-test.false l.invariant.1
+returns c = let l = c.loop-c in seen_all _ l.c-index l.others c.loop-c-test.false l.invariant

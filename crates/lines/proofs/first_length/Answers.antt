@@ -1,17 +1,14 @@
--- `lines::first_length` meets its contract. The loop's invariant: no line ends among the i characters passed. Assumes nothing.
-use mathlib.Core.Path.{sym}
-use native.Mathlib.Omega.{arith}
-use Rattle.lines.proofs.Lines.{passed-next, passed-end, passed-all}
+-- `lines::first_length` meets its contract: by the first character that the closure finds. Assumes nothing.
+use Rattle.std.proofs.Common.{rules, ◌≡◌, ◌≢◌, sym, ◌∙◌}
+use Rattle.std.proofs.lemmas.Iterator.{YieldsList-from_slice, IsFirst-from_position}
+use borrow.Author.Tests.{tests}
+use Rattle.lines.proofs.Lines.{first_end}
 use Rattle.lines.proofs.first_length.Goals as goal
 
-pub loop-i-init : goal.loop-i-init
-loop-i-init c = (omega arith, omega arith)
-
-pub returns-then-bytes-i-eq-LINE_END : goal.returns-then-bytes-i-eq-LINE_END
-returns-then-bytes-i-eq-LINE_END c = let l = c.loop-i in sym (passed-end _ l.i (omega arith) l.invariant.1 c.if-bytes-i-eq-LINE_END.true)
-
-pub loop-i-preserved : goal.loop-i-preserved
-loop-i-preserved c = let l = c.loop-i in (omega arith, passed-next _ l.i (omega arith) l.invariant.1 c.if-bytes-i-eq-LINE_END.false)
-
 pub returns : goal.returns
-returns c = let l = c.loop-i in sym (passed-all _ l.i c.loop-i-test.false l.invariant.1)
+returns c =
+    let s = c.args.bytes.now in
+    let found =
+    IsFirst-from_position _ _ c.position.result (λ b. b ≡ 0x0A) (λ b. b ≢ 0x0A) c.position.ensures.ran (YieldsList-from_slice s cc)
+    (λ x q k. search (rules, tests)) (λ x q k. search (rules, tests)) in
+    c.unwrap_or.ensures ∙ sym (first_end s c.position.result found)

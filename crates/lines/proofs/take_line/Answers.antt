@@ -1,32 +1,22 @@
 -- `lines::take_line` meets its contract: by whether the line ends in the block. Assumes nothing.
-use native.Mathlib.Omega.{arith}
-use Rattle.lines.proofs.Lines.{line-ends, line-goes-on, line-size, line-held}
+use Rattle.std.proofs.Common.{◌∙◌, arith}
+use Rattle.lines.proofs.Lines.{line-ends, line-goes-on, ends-inside, line-held}
 use Rattle.lines.proofs.take_line.Goals as goal
+use Rattle.lines.proofs.take_line.Goals.{then-ended, else-ended}
 
-pub returns-then-length-block : goal.returns-then-length-block
-returns-then-length-block c =
-    let a = c.args in
+pub returns-clause-taken : goal.returns-clause-taken
+returns-clause-taken c =
+    let s = c.args.block.now in
     let n = c.first_length-length.ensures in
-    let at = c.least-at.ensures in
-    let k = c.least-kept.ensures in
-    let e = line-ends a.block.now (omega (arith, n, c.if-length-block.true)) in
-    record {
-      taken = omega (arith, n, e.0);
-      ended = e.1;
-      size = line-size a.held.now a.begun a.block.now at n k;
-      filled = line-held a.held.now a.begun a.block.now at n k c.copy.ensures.filled;
-    }
+    elim c.if-ended.branch [
+      | then-ended w ↦ w.result-is ∙ omega (arith, n, (line-ends s (omega (arith, n, w.if-ended.true))).0)
+      | else-ended w ↦ w.result-is ∙ omega (arith, n, (line-goes-on s (omega (arith, n, w.if-ended.false))).0)
+    ]
 
-pub returns : goal.returns
-returns c =
+pub returns-clause-ended : goal.returns-clause-ended
+returns-clause-ended c = ends-inside c.args.block.now c.first_length-length.ensures
+
+pub returns-clause-filled : goal.returns-clause-filled
+returns-clause-filled c =
     let a = c.args in
-    let n = c.first_length-length.ensures in
-    let at = c.least-at.ensures in
-    let k = c.least-kept.ensures in
-    let e = line-goes-on a.block.now (omega (arith, n, c.if-length-block.false)) in
-    record {
-      taken = omega (arith, n, e.0);
-      ended = e.1;
-      size = line-size a.held.now a.begun a.block.now at n k;
-      filled = line-held a.held.now a.begun a.block.now at n k c.copy.ensures.filled;
-    }
+    line-held a.held.now a.begun a.block.now c.min-at.ensures c.first_length-length.ensures c.min-kept.ensures c.copy.ensures.filled

@@ -1,17 +1,14 @@
 -- `numbers::signed_of` meets its contract. Assumes nothing.
-use mathlib.Core.Path.{sym, ap, subst, ◌∙◌}
+use mathlib.Core.Path.{sym, ap, ◌∙◌}
 use Prim.Native.Nat.{ℕ, ◌-◌, ◌^◌, ◌<◌}
 use native.Mathlib.Omega.{arith}
 use lib.IntN.{ℤ, negsuc}
 use mir.Facts.{to_z-of_z, to_z_pos}
 use mir.Syntax.{w64}
-use mir.Val.{SFits, to_z, of_z}
-use Rattle.numbers.proofs.I64.{pos-fits, neg-fits, flipped}
+use mir.Val.{to_z, of_z}
+use Rattle.numbers.proofs.I64.{neg-fits, flipped}
 use Rattle.numbers.proofs.TwosComplement.{low_half, high_half}
 use Rattle.numbers.proofs.signed_of.Goals as goal
-
-pub overflow_cast-result : goal.overflow_cast-result
-overflow_cast-result c = pos-fits (omega arith)
 
 pub returns-then-number-most : goal.returns-then-number-most
 returns-then-number-most c =
@@ -19,16 +16,8 @@ returns-then-number-most c =
     let h : c.args.number < 2 ^ 63 = omega arith in
     to_z_pos w64 h ∙ sym (low_half c.args.width c.args.number c.requires.2 (omega arith))
 
-pub overflow_cast-result-2 : goal.overflow_cast-result-2
-overflow_cast-result-2 c = pos-fits (omega arith)
-
-pub overflow_sub-result-2 : goal.overflow_sub-result-2
-overflow_sub-result-2 c =
-    let h : c.largest-most.result - c.args.number < 2 ^ 63 = omega arith in
-    subst (SFits w64) (sym (flipped h)) (neg-fits h)
-
-pub returns : goal.returns
-returns c =
+pub returns-else-number-most : goal.returns-else-number-most
+returns-else-number-most c =
     let l = c.largest-most.ensures in
     let h : c.largest-most.result - c.args.number < 2 ^ 63 = omega arith in
     ap (λ (z : ℤ). to_z w64 (of_z w64 z)) (flipped h)

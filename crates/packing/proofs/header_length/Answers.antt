@@ -11,5 +11,5 @@ returns-then-size-lt16 c = rw (lt-ltb c.args.size 16 c.if-size-lt16.true)
 pub overflow_add-result : goal.overflow_add-result
 overflow_add-result c = let n = c.args.size in omega (arith, narrowest-most (λ w. holds w n))
 
-pub returns : goal.returns
-returns c = rw (le-ltb c.args.size 16 c.if-size-lt16.false, c.size_width.ensures)
+pub returns-else-size-lt16 : goal.returns-else-size-lt16
+returns-else-size-lt16 c = rw (le-ltb c.args.size 16 c.if-size-lt16.false, c.size_width.ensures)

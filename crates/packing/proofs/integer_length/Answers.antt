@@ -15,7 +15,7 @@ overflow_add-result c =
     let w = rw (to_z-of_z c.ranges.number) at c.integer_width.ensures in
     omega (arith, w, narrowest-most (λ w. fits_in w c.args.number))
 
-pub returns : goal.returns
-returns c =
+pub returns-else-is_tiny : goal.returns-else-is_tiny
+returns-else-is_tiny c =
     ap (λ (w : ℕ). 1 + w) (rw (to_z-of_z c.ranges.number) at c.integer_width.ensures)
     ∙ sym (length-integer c.args.number (rw (to_z-of_z c.ranges.number) at (sym c.is_tiny.ensures ∙ c.if-is_tiny.false)))

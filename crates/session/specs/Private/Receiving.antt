@@ -1,11 +1,11 @@
 -- What a line brings, as the code answers it. Assumes nothing.
-use Rattle.refusal.specs.Numbers.{number_of}
+use Rattle.std.specs.Prelude.{Option, Some, None}
+use Rattle.refusal.specs.Answer.{Answer, returned, refused}
+use Rattle.states.specs.declared.request.Request.{Request}
 use Rattle.session.specs.Receiving.{Brought, nothing, request, refusal}
-use Rattle.session.specs.declared.receive.Received.{Received}
-use Rattle.session.specs.declared.receive.Received.TheVariants as R
 
--- what the code answers, in these terms
-abbrev pub told : Received → Brought
-told R.KeepAlive = nothing
-told (R.Request r) = request r
-told (R.Refused why) = refusal (number_of why)
+-- a keep-alive brings no request
+abbrev pub bringing : Answer (Option Request) → Brought
+bringing (returned None) = nothing
+bringing (returned (Some r)) = request r
+bringing (refused number place) = refusal number

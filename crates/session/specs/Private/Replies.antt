@@ -2,17 +2,13 @@
 use Rattle.std.specs.Prelude.{ℕ, List, ◌++◌, map, ◌≡◌, length}
 use Rattle.std.proofs.lemmas.List.Edits.{sets}
 use Rattle.slices.specs.Parts.{front}
-use Rattle.refusal.specs.Answer.{Answer, returned}
-use Rattle.record.specs.declared.record.Control.{Control}
 use Rattle.record.specs.declared.record.Connection.{Connection}
 use Rattle.serving.specs.Serving.{End, idle, closed, refusal, Serving, after_refusal, end_of}
-use Rattle.session.specs.declared.serve.Served.{Served}
+use Rattle.session.specs.declared.phase.Session.{Session}
 use Rattle.session.specs.declared.reply.Reply.{Reply}
-use Rattle.session.specs.declared.line.AfterLine.{AfterLine}
 use Rattle.session.specs.declared.line.Handled.{Handled}
-use Rattle.session.specs.declared.line.Handled.TheVariants as H
 use Rattle.session.specs.Text.{text}
-use Rattle.session.specs.Session.{Session, Next, summary_line, end_lines, is_idle, greeting, written, told}
+use Rattle.session.specs.Session.{Next, summary_line, end_lines, is_idle, written, told_handled}
 
 -- the lines of the summaries
 abbrev pub sent : Serving → List ℕ
@@ -25,35 +21,25 @@ leaving closed c = c
 leaving (refusal number) c = after_refusal number c
 
 -- all of a serving but what a refusal leads to: the record, why it ended, and its summaries' lines in front
-pub record Sends (w : Serving) (c : Connection) (r : Served) (before out : List ℕ) : Type 0 where
+pub record Sends (w : Serving) (c : Connection) (r : Reply) (before out : List ℕ) : Type 0 where
   pub connection : leaving (end_of r.ending) c ≡ w.connection
   pub ending : end_of r.ending ≡ w.end
   pub ends : r.end ≡ length (sent w)
   pub filled : out ≡ sets before 0 (sent w)
 
 -- all that a line gives but what a refusal leads to, with these lines in front
-pub record Replies (n : Next) (r : Reply) (c : Connection) (before out : List ℕ) : Type 0 where
+pub record Replies (n : Next) (r : Reply) (after : Session) (before out : List ℕ) : Type 0 where
   pub lines : List (List ℕ)
   pub next : n ≡ record {
     lines = lines ++ end_lines (end_of r.ending);
     goes_on = is_idle (end_of r.ending);
-    session = record { phase = r.phase; connection = leaving (end_of r.ending) c };
+    session = record { phase = after.phase; connection = leaving (end_of r.ending) after.connection };
   }
   pub ends : r.end ≡ length (text lines)
   pub filled : out ≡ sets before 0 (text lines)
 
--- the handshake, whatever the record's arrays hold
-abbrev pub Greets : Control → Answer ℕ → Reply → List ℕ → List ℕ → Type 0
-Greets k a r before out = (f : Control → Connection) → Replies (greeting (f k) a) r (f r.control) before out
-
 -- all that a line gives, its lines in front
-pub record Responds (n : Next) (r : AfterLine) (after : Session) (before out : List ℕ) : Type 0 where
-  pub answer : told r.answer ≡ returned (record { goes_on = n.goes_on; characters = length (written n) })
+pub record Responds (n : Next) (h : Handled) (after : Session) (before out : List ℕ) : Type 0 where
+  pub answer : told_handled h ≡ record { goes_on = n.goes_on; characters = length (written n) }
   pub session : after ≡ n.session
   pub filled : out ≡ front (written n) before
-
--- how many characters were written
-abbrev pub size_of : Handled → ℕ
-size_of (H.GoesOn n) = n
-size_of (H.Ended n) = n
-size_of (H.Refused why) = 0

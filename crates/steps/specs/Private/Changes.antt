@@ -1,34 +1,25 @@
 -- What the private functions leave of a control and of the open numbers, and when they are called. Cited only by private contracts.
 -- Assumes nothing.
-use Rattle.std.specs.Prelude.{ℕ, ◌+◌, ◌<◌, ◌≤◌, ◌≡◌, true, List, ℤ, length}
+use Rattle.std.specs.Prelude.{ℕ, ◌+◌, ◌<◌, ◌≤◌, ◌≡◌, true, List, Result, length}
 use Rattle.std.proofs.lemmas.List.Edits.{sets}
 use Rattle.states.specs.declared.state.State.{State}
 use Rattle.states.specs.declared.state.State.TheVariants.{Defunct}
 use Rattle.states.specs.declared.request.Request.{Request}
+use Rattle.states.specs.declared.answers.Arrival.{Arrival}
+use Rattle.states.specs.Answers.{told_arrival}
 use Rattle.states.specs.Requests.{rank}
+use Rattle.refusal.specs.declared.Refusal.{Refusal}
 use Rattle.refusal.specs.Answer.{returned}
 use Rattle.states.specs.Table.{Open, accept}
 use Rattle.states.specs.Rules.{may_be_in_flight}
 use Rattle.record.specs.declared.record.Control.{Control}
-use Rattle.record.specs.declared.record.Connection.{Connection}
+use Rattle.record.specs.declared.record.Queue.{Queue}
 use Rattle.record.specs.Ring.{behind}
 use Rattle.record.specs.Record.{joined, kept, bounded, state_in, open_in}
 use Rattle.record.specs.Calls.{storing, carried}
-use Rattle.steps.specs.Steps.{told_arrive}
+use Rattle.steps.specs.Steps.{told_after}
 use Rattle.steps.specs.declared.streams.Opened.{Opened}
-use Rattle.steps.specs.declared.after.AfterArrive.{AfterArrive}
-
--- the queue's arrays
-pub record Queue : Type 0 where
-  pub kinds : List ℕ
-  pub counts : List ℤ
-  pub qids : List ℤ
-
-abbrev pub queue : List ℕ → List ℤ → List ℤ → Queue
-queue kinds counts qids = record { kinds = kinds; counts = counts; qids = qids }
-
-abbrev pub in_record : Control → List ℕ → Queue → Connection
-in_record k streams q = joined k streams q.kinds q.counts q.qids
+use Rattle.steps.specs.declared.after.After.{After}
 
 -- a request can be accepted
 pub record Accepting (k : Control) : Type 0 where
@@ -37,10 +28,9 @@ pub record Accepting (k : Control) : Type 0 where
   pub below : k.accepted < 4294967295
 
 -- it is accepted, whatever the streams, which it leaves
-pub record Accepts (k : Control) (r : Request) (before after : Queue) (a : AfterArrive) : Type 0 where
+pub record Accepts (k : Control) (r : Request) (before after : Queue) (a : After (Result Arrival Refusal)) : Type 0 where
   pub whatever : (streams : List ℕ) → length streams ≡ 8
-      → told_arrive a streams after.kinds after.counts after.qids
-      ≡ carried (storing r) (in_record k streams before) (returned (accept (kept (in_record k streams before)) r))
+      → told_after told_arrival a streams after ≡ carried (storing r) (joined k streams before) (returned (accept (kept (joined k streams before)) r))
 
 -- a request waits, and can be answered
 pub record Answering (k : Control) : Type 0 where

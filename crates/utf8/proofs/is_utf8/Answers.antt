@@ -5,7 +5,7 @@ use Prim.Native.Nat.{ℕ, ◌+◌, ◌≤◌, ◌<◌}
 use native.Mathlib.Omega.{arith}
 use lib.ListN.{length, get_or, drop}
 use Rattle.utf8.specs.Private.Ascii.{ascii_run}
-use Rattle.utf8.proofs.Utf8.{Checked, Leads, checked, all-checked, at-fault, past-run, leads-past-run, past-sequence}
+use Rattle.utf8.proofs.Utf8.{Checked, Leads, checked, all-checked, at-fault, past-run, leads-past-run, has-bytes, past-sequence}
 use Rattle.utf8.proofs.is_utf8.Goals as goal
 use Rattle.utf8.proofs.is_utf8.Goals.{then-bytes-at-lt128+else-bytes-at, else-bytes-at-lt128}
 
@@ -23,8 +23,8 @@ pub returns-then-bytes-at : goal.returns-then-bytes-at
 returns-then-bytes-at c =
     all-checked (past-run c.loop-at.invariant) (omega (arith, c.ascii_end-at.ensures, c.if-bytes-at.true))
 
-pub sequence_at-size-requires : goal.sequence_at-size-requires
-sequence_at-size-requires c =
+pub sequence_at-requires : goal.sequence_at-requires
+sequence_at-requires c =
     let led : Leads c.args.bytes.now c.if-bytes-at-lt128.at × (c.loop-at.at ≤ c.if-bytes-at-lt128.at) =
     elim c.if-bytes-at-lt128.branch [
       | then-bytes-at-lt128+else-bytes-at w ↦ past c.loop-at.invariant (w.at-is ∙ w.ascii_end-at.ensures) (omega (arith, w.at-is))
@@ -32,15 +32,14 @@ sequence_at-size-requires c =
     ] in
     (led.0.inside, led.0.high)
 
-pub returns-then-size-eq0 : goal.returns-then-size-eq0
-returns-then-size-eq0 c =
+pub returns-in_default : goal.returns-in_default
+returns-in_default c =
     let led : Leads c.args.bytes.now c.if-bytes-at-lt128.at × (c.loop-at.at ≤ c.if-bytes-at-lt128.at) =
     elim c.if-bytes-at-lt128.branch [
       | then-bytes-at-lt128+else-bytes-at w ↦ past c.loop-at.invariant (w.at-is ∙ w.ascii_end-at.ensures) (omega (arith, w.at-is))
       | else-bytes-at-lt128 w ↦ here c.loop-at.invariant c.loop-at-test.true w.if-bytes-at-lt128.false w.at-is
     ] in
-    let n = c.sequence_at-size in
-    at-fault led.0.before led.0.inside n.result n.ensures c.if-size-eq0.true
+    at-fault led.0.before led.0.inside c.in_default.ensures
 
 pub loop-at-preserved : goal.loop-at-preserved
 loop-at-preserved c =
@@ -49,8 +48,7 @@ loop-at-preserved c =
       | then-bytes-at-lt128+else-bytes-at w ↦ past c.loop-at.invariant (w.at-is ∙ w.ascii_end-at.ensures) (omega (arith, w.at-is))
       | else-bytes-at-lt128 w ↦ here c.loop-at.invariant c.loop-at-test.true w.if-bytes-at-lt128.false w.at-is
     ] in
-    let n = c.sequence_at-size in
-    past-sequence led.0.before led.0.inside n.result n.ensures c.if-size-eq0.false
+    past-sequence led.0.before led.0.inside c.in-Some.size c.in-Some.ensures
 
 pub overflow_add-at : goal.overflow_add-at
 overflow_add-at c = omega (arith, (loop-at-preserved c).within)
@@ -62,7 +60,7 @@ loop-at-smaller c =
       | then-bytes-at-lt128+else-bytes-at w ↦ past c.loop-at.invariant (w.at-is ∙ w.ascii_end-at.ensures) (omega (arith, w.at-is))
       | else-bytes-at-lt128 w ↦ here c.loop-at.invariant c.loop-at-test.true w.if-bytes-at-lt128.false w.at-is
     ] in
-    omega (arith, (loop-at-preserved c).within, led.1)
+    omega (arith, (loop-at-preserved c).within, has-bytes led.0.before led.0.inside c.in-Some.size c.in-Some.ensures, led.1)
 
 pub returns : goal.returns
 returns c = all-checked c.loop-at.invariant (omega arith)

@@ -1,6 +1,6 @@
 -- Where the parts of a value that was read lie, for callers that walk through a message: stated here, and proved in `proofs/Placement.antt`.
 -- Assumes nothing.
-use Rattle.std.specs.Prelude.{◌≡◌, List, ℕ, ◌+◌, ◌-◌, ◌≤◌, ◌<◌, length}
+use Rattle.std.specs.Prelude.{◌≡◌, List, ℕ, ◌+◌, ◌-◌, ◌≤◌, ◌<◌, length, Some}
 use Rattle.slices.specs.Parts.{part}
 use Rattle.markers.specs.Value.{Value, null, boolean, integer, float, bytes, string, list, dictionary, structure, Items, no_items, item, Entries, no-entries, entry, first, first_entry}
 use Rattle.markers.specs.Extents.{most_open}
@@ -8,8 +8,6 @@ use Rattle.values.specs.Decode.{parsed, value_at}
 use Rattle.values.specs.Reading.{head_of}
 use Rattle.values.specs.Walk.{peek_at, skip_at}
 use Rattle.values.specs.declared.head.Head.TheVariants as H
-use Rattle.values.specs.declared.walk.Peeked.TheVariants as P
-use Rattle.values.specs.declared.walk.Skipped.TheVariants as S
 
 -- with room for so many open containers, the value v is read from `at` to `end`
 abbrev pub Reads : List ℕ → ℕ → ℕ → Value → ℕ → Type 0
@@ -28,8 +26,8 @@ pub record ContentLies (s : List ℕ) (start : ℕ) (content : List ℕ) (end : 
 
 -- a key lies where its String does: a walk finds it
 pub record KeyLies (s : List ℕ) (at start : ℕ) (key : List ℕ) (end : ℕ) : Type 0 where
-  pub peeked : P.Value (H.String start (length key)) ≡ peek_at s at
-  pub skipped : S.To end ≡ skip_at s at
+  pub peeked : Some (H.String start (length key)) ≡ peek_at s at
+  pub skipped : Some end ≡ skip_at s at
   pub content : ContentLies s start key end
 
 -- entries lie one after another, each a key and the value after it
@@ -55,8 +53,8 @@ pub record Placement (s : List ℕ) (depth at : ℕ) (v : Value) (end : ℕ) : T
   pub past : at < end
   pub inside : end ≤ length s
   -- a walk finds the value's head at its offset, and its end
-  pub peeked : P.Value (head_of v end) ≡ peek_at s at
-  pub skipped : S.To end ≡ skip_at s at
+  pub peeked : Some (head_of v end) ≡ peek_at s at
+  pub skipped : Some end ≡ skip_at s at
   pub parts : PartsLie s depth v end
 
 -- of every value that is read with room for at most 16 open containers

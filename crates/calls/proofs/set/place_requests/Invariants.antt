@@ -2,8 +2,5 @@
 use Prim.Native.Nat.{◌+◌, ◌*◌, ◌≤◌}
 use Rattle.calls.proofs.set.place_requests.Given as goal
 
-abbrev pub invariant-loop-left : goal.invariant-loop-left
-invariant-loop-left l = l.from + 40001 * l.left ≤ 4 + 40001 * l.count
-
-abbrev pub decreases-loop-left : goal.decreases-loop-left
-decreases-loop-left l = l.left
+abbrev pub invariant-loop : goal.invariant-loop
+invariant-loop l = l.from ≤ 4 + 40001 * l.counter

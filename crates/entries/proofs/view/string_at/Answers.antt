@@ -1,17 +1,15 @@
 -- `entries::view::string_at` meets its contract: by the extent that is found. Assumes nothing.
-use mathlib.Core.Path.{sym, ◌∙◌}
-use mathlib.Core.Bool.{true, false}
-use Rattle.entries.proofs.Peeking.{text_at, leaf-text}
+use Rattle.entries.proofs.Peeking.{none-there, leaf-text, other-text}
 use Rattle.entries.proofs.view.string_at.Goals as goal
 
-pub returns-then-is_string : goal.returns-then-is_string
-returns-then-is_string c = leaf-text _ _ _ _ _ true (sym c.in-Leaf.is ∙ c.extent_at-extent.ensures) (sym c.if-is_string.true ∙ c.is_string.ensures)
+pub returns-in_err-kind : goal.returns-in_err-kind
+returns-in_err-kind c = rw c.from_residual.ensures (none-there _ _ _ c.extent_at.ensures c.in_err-kind.ensures.value)
 
-pub returns-else-is_string : goal.returns-else-is_string
-returns-else-is_string c = leaf-text _ _ _ _ _ false (sym c.in-Leaf.is ∙ c.extent_at-extent.ensures) (sym c.if-is_string.false ∙ c.is_string.ensures)
+pub returns-in_default : goal.returns-in_default
+returns-in_default c = other-text _ _ _ c.extent_at.ensures _ c.in_ok-kind.ensures.value _ _ _ c.in_default.is
 
-pub returns-in-Container : goal.returns-in-Container
-returns-in-Container c = text_at _ _ _ (sym c.in-Container.is ∙ c.extent_at-extent.ensures)
+pub returns-then-eq : goal.returns-then-eq
+returns-then-eq c = leaf-text _ _ _ c.extent_at.ensures _ c.in_ok-kind.ensures.value _ _ _ c.in-Leaf.is _ c.if-eq.ensures
 
-pub returns-in-Refused : goal.returns-in-Refused
-returns-in-Refused c = text_at _ _ _ (sym c.in-Refused.is ∙ c.extent_at-extent.ensures)
+pub returns : goal.returns
+returns c = leaf-text _ _ _ c.extent_at.ensures _ c.in_ok-kind.ensures.value _ _ _ c.in-Leaf.is _ c.if-eq.ensures

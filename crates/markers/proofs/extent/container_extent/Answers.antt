@@ -1,20 +1,21 @@
 -- `markers::extent::container_extent` meets its contract. Assumes nothing.
-use mathlib.Core.Path.{sym, ◌∙◌, subst}
+use Rattle.std.proofs.Common.{rules}
+use mathlib.Core.Path.{sym}
 use native.Mathlib.Omega.{arith}
-use Rattle.markers.proofs.Extents.{NoNumber, size-inside, container-unsized, container-there}
+use Rattle.markers.proofs.Extents.{size-ok, size-inside, container-unsized, container-there}
 use Rattle.markers.proofs.extent.container_extent.Goals as goal
 
-pub returns-in_default : goal.returns-in_default
-returns-in_default c =
+pub returns-in_err-count : goal.returns-in_err-count
+returns-in_err-count c =
     let a = c.args in
-    c.refused.ensures ∙ container-unsized a.message.now a.at a.marker a.kind (subst NoNumber c.size_at.ensures c.in_default.not-Number)
+    search (rules, container-unsized a.message.now a.at a.marker a.kind _ (sym c.in_err-count.ensures))
 
-pub overflow_add-result-2 : goal.overflow_add-result-2
-overflow_add-result-2 c =
+pub overflow_add-start-2 : goal.overflow_add-start-2
+overflow_add-start-2 c =
     let a = c.args in
-    omega (arith, size-inside a.message.now a.at a.marker c.in-Number.n ((sym c.in-Number.is ∙ c.size_at.ensures)) c.requires.0 c.requires.1)
+    omega (arith, size-inside a.message.now a.at a.marker c.in_ok-count.count (size-ok a.at _ _ (sym c.in_ok-count.ensures)) c.requires.0 c.requires.1)
 
 pub returns : goal.returns
 returns c =
     let a = c.args in
-    container-there a.message.now a.at a.marker a.kind c.in-Number.n ((sym c.in-Number.is ∙ c.size_at.ensures))
+    container-there a.message.now a.at a.marker c.in_ok-count.count (size-ok a.at _ _ (sym c.in_ok-count.ensures)) a.kind

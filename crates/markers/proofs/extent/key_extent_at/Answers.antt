@@ -11,7 +11,7 @@ use Rattle.markers.proofs.Extents.{key-missing, by-key-kind}
 use Rattle.markers.proofs.extent.key_extent_at.Goals as goal
 
 pub returns-then-message-at : goal.returns-then-message-at
-returns-then-message-at c = let a = c.args in c.refused.ensures ∙ key-missing a.message.now a.at c.if-message-at.true
+returns-then-message-at c = let a = c.args in rw c.at.ensures (key-missing a.message.now a.at c.if-message-at.true)
 
 pub overflow_cast-marker : goal.overflow_cast-marker
 overflow_cast-marker c = omega (arith, mask_lt ((get_or c.args.message.now c.args.at 0)) 4)

@@ -10,4 +10,4 @@ use Rattle.meulhaton.proofs.calls.meulhaton_arrive.Goals as goal
 pub returns : goal.returns
 returns c =
     let h = c.args.connection.now in
-    as_call (ap (λ (r : Request). in_numbers (arrive_of h r)) c.arriving-request.ensures ∙ in-numbers-arrive h c.args.request) (in-numbers (arrive_of h c.arriving-request.result) c.arrive-answer.ensures c.arrived.ensures)
+    as_call (ap (λ (r : Request). in_numbers (arrive_of h r)) c.arriving.ensures ∙ in-numbers-arrive h c.args.request) (in-numbers (arrive_of h c.arriving.result) c.arrive.ensures c.from.ensures)

@@ -5,4 +5,4 @@ use Rattle.meulhaton.proofs.Replying.{in-numbers, as_call}
 use Rattle.meulhaton.proofs.calls.meulhaton_close.Goals as goal
 
 pub returns : goal.returns
-returns c = as_call (in-numbers-close c.args.connection.now) (in-numbers (close_of c.args.connection.now) c.close-answer.ensures c.closed.ensures)
+returns c = as_call (in-numbers-close c.args.connection.now) (in-numbers (close_of c.args.connection.now) c.close.ensures c.from.ensures)

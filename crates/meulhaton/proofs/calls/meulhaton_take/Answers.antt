@@ -5,4 +5,4 @@ use Rattle.meulhaton.proofs.Replying.{in-numbers, as_call}
 use Rattle.meulhaton.proofs.calls.meulhaton_take.Goals as goal
 
 pub returns : goal.returns
-returns c = as_call (in-numbers-take c.args.connection.now) (in-numbers (take_of c.args.connection.now) c.take-answer.ensures c.taken.ensures)
+returns c = as_call (in-numbers-take c.args.connection.now) (in-numbers (take_of c.args.connection.now) c.take.ensures c.from.ensures)

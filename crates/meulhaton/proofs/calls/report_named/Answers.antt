@@ -9,4 +9,4 @@ use Rattle.meulhaton.proofs.calls.report_named.Goals as goal
 pub returns : goal.returns
 returns c =
     let h = c.args.connection.now in
-    as_call (ap (λ (o : Outcome). in_numbers (report_of h o)) c.outcome_of-outcome.ensures) (in-numbers (report_of h c.outcome_of-outcome.result) c.report-answer.ensures c.reported.ensures)
+    as_call (ap (λ (o : Outcome). in_numbers (report_of h o)) c.outcome_of.ensures) (in-numbers (report_of h c.outcome_of.result) c.report.ensures c.from.ensures)

@@ -1,28 +1,21 @@
--- `reply::greet` meets its contract: by the handshake's answer, and by the number of its refusal. Assumes nothing.
-use mathlib.Core.Path.{refl, sym, ap, ◌∙◌}
-use native.Mathlib.Omega.{arith}
-use lib.ListN.{length}
-use Rattle.handshake.specs.Negotiation.{told as agreed}
+-- `reply::greet` meets its contract: by the handshake's answer, and by its refusal. Assumes nothing.
+use Rattle.std.proofs.Common.{refl, sym, ap, ◌∙◌, rules}
+use mathlib.Core.Bool.{false≢true}
+use denote.Enum.Bare.{sameb, same_true}
+use Rattle.refusal.specs.declared.Refusal.{Refusal}
+use Rattle.refusal.specs.declared.Refusal.TheVariants.{NoCommonVersion}
+use Rattle.refusal.specs.contracts.Refusal.{the_type}
+use Rattle.refusal.specs.Numbers.{number_of}
+use Rattle.refusal.proofs.Numbers.{distinct}
 use Rattle.session.proofs.Replies.{agrees_on, away-zeros, away-quiet}
 use Rattle.session.proofs.reply.greet.Goals as goal
 
-pub put_line-end-requires : goal.put_line-end-requires
-put_line-end-requires c = omega (arith, c.requires, ap length c.to_bytes.ensures)
+pub returns-in-Ok : goal.returns-in-Ok
+returns-in-Ok c = agrees_on _ _ _ c.in-Ok.ensures _ c.to_bytes.ensures _ _ _ c.put_line.ensures.answer c.put_line.ensures.filled
 
-pub put_line-end-requires-then-number-eq-NONE_IN_COMMON : goal.put_line-end-requires-then-number-eq-NONE_IN_COMMON
-put_line-end-requires-then-number-eq-NONE_IN_COMMON c = omega (arith, c.requires)
+pub returns-then-eq : goal.returns-then-eq
+returns-then-eq c = away-zeros _ c.requires.awaiting _ _ c.in-Err.ensures _ _ (ap number_of (same_true the_type (search rules) c.in-Err.why NoCommonVersion (sym c.if-eq.ensures))) _ c.put_line-end.ensures.answer c.put_line-end.ensures.filled
 
-pub returns-then-number-eq-NONE_IN_COMMON : goal.returns-then-number-eq-NONE_IN_COMMON
-returns-then-number-eq-NONE_IN_COMMON c =
-    λ f.
-    away-zeros f _ _ c.replied-then-number-eq-NONE_IN_COMMON.result _ _ _ ((sym (ap agreed c.in-Refused.is) ∙ c.receive_handshake.ensures)) c.replied-then-number-eq-NONE_IN_COMMON.ensures (omega (arith, c.number.ensures, c.if-number-eq-NONE_IN_COMMON.true)) _ c.put_line-end-then-number-eq-NONE_IN_COMMON.ensures.answer c.put_line-end-then-number-eq-NONE_IN_COMMON.ensures.filled
-
-pub returns-in-Agreed : goal.returns-in-Agreed
-returns-in-Agreed c =
-    λ f.
-    agrees_on f _ _ c.replied.result _ _ _ (sym (ap agreed c.in-Agreed.is) ∙ c.receive_handshake.ensures) c.replied.ensures _ c.to_bytes.ensures _ c.put_line-end.ensures.answer c.put_line-end.ensures.filled
-
-pub returns-else-number-eq-NONE_IN_COMMON : goal.returns-else-number-eq-NONE_IN_COMMON
-returns-else-number-eq-NONE_IN_COMMON c =
-    λ f.
-    away-quiet f _ _ c.replied-in-Refused.result _ _ _ ((sym (ap agreed c.in-Refused.is) ∙ c.receive_handshake.ensures)) c.replied-in-Refused.ensures (λ h. c.if-number-eq-NONE_IN_COMMON.false (c.number.ensures ∙ h)) refl
+pub returns-else-eq : goal.returns-else-eq
+returns-else-eq c =
+    away-quiet _ c.requires.awaiting _ _ c.in-Err.ensures _ _ (λ h. false≢true (c.if-eq.ensures ∙ ap (λ (why : Refusal). sameb the_type why NoCommonVersion) (distinct c.in-Err.why NoCommonVersion h))) refl

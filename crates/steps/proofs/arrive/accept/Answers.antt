@@ -1,36 +1,38 @@
--- `steps::arrive::accept` meets its contract: by the tests passed. Assumes nothing.
-use mathlib.Core.List.{List}
-use Prim.Native.Nat.{ℕ}
+-- `steps::arrive::accept` meets its contract: by whether it is a RESET, and the state. Assumes nothing.
+use mathlib.Core.Path.{sym, ap, ◌∙◌}
+use Rattle.bolt.specs.Requests.{RESET}
+use Rattle.states.specs.declared.state.State.{State}
+use Rattle.states.specs.declared.state.State.TheVariants.{Connected}
+use Rattle.states.specs.Requests.{is, in_state}
 use Rattle.record.specs.Record.{joined}
 use Rattle.record.proofs.Keeping.{bounds}
+use Rattle.steps.proofs.Calls.{state-test, no-reset}
 use Rattle.steps.proofs.Leaving.{accept-closes, accept-resets, accept-queues}
 use Rattle.steps.proofs.arrive.accept.Goals as goal
+use Rattle.steps.proofs.arrive.accept.Goals.{in-Reset+else-eq, in_default}
 
-pub returns-then-is_in : goal.returns-then-is_in
-returns-then-is_in c =
+pub returns-then-eq : goal.returns-then-eq
+returns-then-eq c =
+    let a = c.args in
     record {
       whatever = λ streams long.
-          accept-closes ((λ (streams : List ℕ). joined c.args.control streams c.args.kinds.now c.args.counts.now c.args.qids.now) streams) c.requires long c.args.request c.state_of-state.ensures c.tag.ensures c.if-tag-eq-RESET.true c.is_in.ensures c.if-is_in.true
-          c.counted-counted.ensures c.defunct.ensures c.answer.ensures;
+          rw (c.new.ensures, c.defunct.ensures, c.counted-counted.ensures)
+          (accept-closes (joined a.control streams a.queue.now) c.requires.0 long a.request (ap (is RESET) c.in-Reset.is)
+          (ap (λ (s : State). in_state s Connected) (sym c.requires.1) ∙ state-test a.state Connected c.if-eq.ensures));
     }
 
 pub store-requires : goal.store-requires
-store-requires c = ((bounds c.args.control c.requires.bounds).first, c.requires.short)
-
-pub returns-then-tag-eq-RESET : goal.returns-then-tag-eq-RESET
-returns-then-tag-eq-RESET c =
-    record {
-      whatever = λ streams long.
-          accept-resets ((λ (streams : List ℕ). joined c.args.control streams c.args.kinds.now c.args.counts.now c.args.qids.now) streams) c.requires long c.args.request c.state_of-state.ensures c.tag.ensures (c.store.ensures.kinds, (c.store.ensures.counts, c.store.ensures.qids))
-          c.if-tag-eq-RESET.true c.is_in.ensures c.if-is_in.false c.counted-interrupted.ensures c.answer-then-tag-eq-RESET.ensures;
-    }
-
-pub store-requires-2 : goal.store-requires-2
-store-requires-2 c = ((bounds c.args.control c.requires.bounds).first, c.requires.short)
+store-requires c = ((bounds c.args.control c.requires.0.bounds).first, c.requires.0.short)
 
 pub returns : goal.returns
 returns c =
+    let a = c.args in
     record {
       whatever = λ streams long.
-          accept-queues ((λ (streams : List ℕ). joined c.args.control streams c.args.kinds.now c.args.counts.now c.args.qids.now) streams) c.requires long c.args.request c.state_of-state.ensures c.tag.ensures (c.store-2.ensures.kinds, (c.store-2.ensures.counts, c.store-2.ensures.qids)) c.if-tag-eq-RESET.false c.counted-counted-2.ensures c.answer-2.ensures;
+          rw (c.new-2.ensures, c.counted.ensures, c.store.ensures)
+          (elim c.match-request.branch [
+            | in-Reset+else-eq w ↦ rw w.state-is (accept-resets (joined a.control streams a.queue.now) c.requires.0 long a.request (ap (is RESET) w.in-Reset.is)
+                (ap (λ (s : State). in_state s Connected) (sym c.requires.1) ∙ state-test a.state Connected w.if-eq.ensures))
+            | in_default w ↦ rw (w.state-is, c.requires.1) (accept-queues (joined a.control streams a.queue.now) c.requires.0 long a.request (no-reset a.request w.in_default.not-Reset))
+          ]);
     }

@@ -1,40 +1,45 @@
 -- `steps::report::report_first` meets its contract: by the tests passed. Assumes nothing.
-use mathlib.Core.Path.{refl, sym, ap, ◌∙◌}
-use mathlib.Core.Bool.{true, false}
-use Rattle.record.specs.Record.{state_in}
+use mathlib.Core.Path.{sym}
+use Rattle.states.specs.declared.state.State.TheVariants.{Interrupted}
 use Rattle.record.proofs.Keeping.{bounds}
-use Rattle.steps.specs.declared.after.AfterReport.{AfterReport}
-use Rattle.steps.specs.Steps.{told_report}
+use Rattle.steps.proofs.Calls.{state-test}
 use Rattle.steps.proofs.Outcomes.{handed, unfitting, interrupted, settles}
 use Rattle.steps.proofs.report.report_first.Goals as goal
 
 pub returns-then-not-fits : goal.returns-then-not-fits
 returns-then-not-fits c =
     let a = c.args in
-    ap (λ (x : AfterReport). told_report x a.streams.now a.kinds.now a.counts.now a.qids.now) c.answer.ensures
-    ∙ unfitting a.control a.streams.now a.kinds.now a.counts.now a.qids.now a.outcome (state_in a.control) _ refl c.request_at-first.ensures c.requires.waits.some
-    (sym c.fits.ensures ∙ c.if-not-fits.true)
+    rw c.new.ensures
+    (unfitting a.control a.streams.now a.queue.now a.outcome a.state c.request_at-first.result c.requires.1 c.request_at-first.ensures c.requires.0.waits.some (sym c.if-not-fits.ensures))
 
-pub returns-then-is_in : goal.returns-then-is_in
-returns-then-is_in c =
+pub returns-then-eq : goal.returns-then-eq
+returns-then-eq c =
     let a = c.args in
-    interrupted a.control a.streams.now a.kinds.now a.counts.now a.qids.now a.outcome c.state_of-state.result c.request_at-first.result c.state_of-state.ensures c.request_at-first.ensures c.requires.waits.some (bounds a.control c.requires.waits.bounds) c.requires.long (sym c.fits.ensures ∙ c.if-not-fits.false) c.summary_of-summary.ensures c.sum_up.ensures
-    (sym c.is_in.ensures ∙ c.if-is_in.true)
+    rw (c.new-then-eq.ensures, c.answered-control.ensures)
+    (interrupted a.control a.streams.now a.queue.now a.outcome a.state c.request_at-first.result c.requires.1 c.request_at-first.ensures c.requires.0.waits.some
+    (bounds a.control c.requires.0.waits.bounds) c.requires.0.long (sym c.if-not-fits.ensures) c.summary_of.ensures (state-test a.state Interrupted c.if-eq.ensures))
 
 pub streams_after-opened-requires : goal.streams_after-opened-requires
-streams_after-opened-requires c = ((bounds c.args.control c.requires.waits.bounds).fewer, (c.requires.long, (handed c.args.control c.args.streams.now c.args.kinds.now c.args.counts.now c.args.qids.now c.args.outcome c.state_of-state.result c.request_at-first.result c.state_of-state.ensures c.request_at-first.ensures c.requires.flies (sym c.is_in.ensures ∙ c.if-is_in.false)).1))
+streams_after-opened-requires c =
+    let a = c.args in (
+      (bounds a.control c.requires.0.waits.bounds).fewer,
+      (
+        c.requires.0.long,
+        (handed a.control a.streams.now a.queue.now a.outcome a.state c.request_at-first.result c.requires.1 c.request_at-first.ensures c.requires.0.flies (state-test a.state Interrupted c.if-eq.ensures)).1,
+      ),
+    )
 
-pub new_state-new-requires : goal.new_state-new-requires
-new_state-new-requires c = ((handed c.args.control c.args.streams.now c.args.kinds.now c.args.counts.now c.args.qids.now c.args.outcome c.state_of-state.result c.request_at-first.result c.state_of-state.ensures c.request_at-first.ensures c.requires.flies (sym c.is_in.ensures ∙ c.if-is_in.false)).0, sym c.fits.ensures ∙ c.if-not-fits.false)
-
-pub returns-then-is_in-2 : goal.returns-then-is_in-2
-returns-then-is_in-2 c =
-    let a = c.args in
-    settles a.control a.streams.now a.kinds.now a.counts.now a.qids.now a.outcome c.state_of-state.result c.request_at-first.result c.state_of-state.ensures c.request_at-first.ensures c.requires.waits.some (bounds a.control c.requires.waits.bounds) c.requires.long (sym c.fits.ensures ∙ c.if-not-fits.false) c.summary_of-summary.ensures
-    c.new_state-new.result c.streams_after-opened.result c.streams_after-opened.new.streams true c.sum_up-then-is_in-2.ensures c.streams_after-opened.ensures c.new_state-new.ensures (sym c.is_in-2.ensures ∙ c.if-is_in-2.true) (sym c.is_in.ensures ∙ c.if-is_in.false)
+pub new_state-state-requires : goal.new_state-state-requires
+new_state-state-requires c =
+    let a = c.args in (
+      (handed a.control a.streams.now a.queue.now a.outcome a.state c.request_at-first.result c.requires.1 c.request_at-first.ensures c.requires.0.flies (state-test a.state Interrupted c.if-eq.ensures)).0,
+      sym c.if-not-fits.ensures,
+    )
 
 pub returns : goal.returns
 returns c =
     let a = c.args in
-    settles a.control a.streams.now a.kinds.now a.counts.now a.qids.now a.outcome c.state_of-state.result c.request_at-first.result c.state_of-state.ensures c.request_at-first.ensures c.requires.waits.some (bounds a.control c.requires.waits.bounds) c.requires.long (sym c.fits.ensures ∙ c.if-not-fits.false) c.summary_of-summary.ensures
-    c.new_state-new.result c.streams_after-opened.result c.streams_after-opened.new.streams false c.sum_up-2.ensures c.streams_after-opened.ensures c.new_state-new.ensures (sym c.is_in-2.ensures ∙ c.if-is_in-2.false) (sym c.is_in.ensures ∙ c.if-is_in.false)
+    rw (c.new-2.ensures, c.answered.ensures, c.left_behind-left.ensures)
+    (settles a.control a.streams.now a.queue.now a.outcome a.state c.request_at-first.result c.requires.1 c.request_at-first.ensures c.requires.0.waits.some
+    (bounds a.control c.requires.0.waits.bounds) c.requires.0.long (sym c.if-not-fits.ensures) c.summary_of.ensures
+    c.new_state-state.result c.streams_after-opened.result c.streams_after-opened.new.streams c.streams_after-opened.ensures c.new_state-state.ensures (state-test a.state Interrupted c.if-eq.ensures))

@@ -1,82 +1,73 @@
--- `steps::report::success_streams` meets its contract: by the tests passed. Assumes nothing.
+-- `steps::report::success_streams` meets its contract: by the request. Assumes nothing.
 use mathlib.Core.Path.{◌≡◌, refl, sym, ap, ◌∙◌, subst}
 use mathlib.Core.Bool.{Bool, true, false, ◌&&◌}
 use mathlib.Core.List.{List}
-use Prim.Native.Nat.{ℕ, ◌+◌, ◌<◌, ◌≤◌}
+use mathlib.Core.Logic.{⊎_elim}
+use Prim.Native.Nat.{ℕ, ◌<◌, ◌≤◌}
 use native.Mathlib.Omega.{arith}
 use lib.ListN.{length, take}
-use borrow.Author.Tests.{eq-eqb, ne_eqb}
+use Rattle.bolt.specs.Requests.{RUN}
 use Rattle.states.specs.declared.state.State.{State}
 use Rattle.states.specs.declared.request.Request.{Request}
-use Rattle.states.specs.declared.request.Asked.{Asked}
-use Rattle.states.specs.Requests.{is, in_transaction, named}
-use Rattle.bolt.specs.Requests.{RUN}
+use Rattle.states.specs.Requests.{is, fetches, in_transaction, named}
 use Rattle.states.specs.Table.{Open, is_full}
-use Rattle.states.proofs.Rows.{run-begins}
 use Rattle.states.proofs.Turns.{room-for-one}
 use Rattle.record.specs.Record.{open_of}
 use Rattle.record.proofs.Opened.{open-length}
 use Rattle.steps.specs.Private.Changes.{Laid}
-use Rattle.steps.proofs.Outcomes.{streams-by}
+use Rattle.steps.proofs.Outcomes.{fetched, run-opens, begun, others-stay}
 use Rattle.steps.proofs.Removing.{laid-own, laid_more, laid-less}
 use Rattle.steps.proofs.report.success_streams.Goals as goal
 
 -- a RUN in a transaction has room for its stream
-roomy : (s : State) (o : Open) (r : Request) → is RUN r ≡ true → in_transaction s ≡ true → (is RUN r && is_full s o) ≡ false → (length o.numbers < 8) × (o.next < 65536)
-roomy s o r run inside free = room-for-one s o inside (sym (ap (λ (b : Bool). b && is_full s o) run) ∙ free)
+roomy : (s : State) (l : List ℕ) (n next : ℕ) (r : Request) → length l ≡ 8 → n ≤ 8 → is RUN r ≡ true → in_transaction s ≡ true → (is RUN r && is_full s (open_of l n next)) ≡ false
+    → (n < 8) × (next < 65536)
+roomy s l n next r long most run inside free =
+    let room : (length (take n l) < 8) × (next < 65536) = room-for-one s (open_of l n next) inside (sym (ap (λ (b : Bool). b && is_full s (open_of l n next)) run) ∙ free) in
+    (omega (arith, open-length l long n most), room.1)
 
-fewer : (l : List ℕ) (n next : ℕ) → length l ≡ 8 → n ≤ 8 → (length (take n l) < 8) × (next < 65536) → n < 8
-fewer l n next long most room = omega (arith, open-length l long n most)
-
--- the streams stay
-stay : (l : List ℕ) (n next : ℕ) → length l ≡ 8 → n ≤ 8 → {m : Open} → open_of l n next ≡ m → Laid m l l (record { count = n; next = next })
-stay l n next long most e = subst (λ (m : Open). Laid m l l (record { count = n; next = next })) e (laid-own l n long next most)
-
-pub returns-then-fetches : goal.returns-then-fetches
-returns-then-fetches c =
+pub returns-then-not-in_transaction : goal.returns-then-not-in_transaction
+returns-then-not-in_transaction c =
     let a = c.args in
-    let o = open_of a.streams.now a.opened a.next in
-    subst (λ (m : Open). Laid m a.streams.now c.remove-left.new.streams (record { count = c.remove-left.result; next = a.next }))
-    (streams-by a.state a.request (sym c.fetches.ensures ∙ c.if-fetches.true) refl refl o refl)
-    (laid-less a.streams.now a.opened a.next c.remove-left.new.streams (c.number_of-number.ensures ∙ ap (λ (x : Asked). named x a.next) c.asked_for-asked.ensures) (c.remove-left.ensures.left, c.remove-left.ensures.moved))
+    let o = open_of a.streams.now a.opened.count a.opened.next in
+    rw (c.in-Run.is, ← run-opens a.state o (sym c.if-not-in_transaction.ensures)) (laid-own a.streams.now a.opened.count c.requires.1.0 a.opened.next c.requires.0)
 
 pub push-requires : goal.push-requires
 push-requires c =
     let a = c.args in
-    let o = open_of a.streams.now a.opened a.next in
-    (fewer a.streams.now a.opened a.next c.requires.1.0 c.requires.0 (roomy a.state o a.request (eq-eqb _ _ (sym c.tag-tag.ensures ∙ c.if-tag-eq-RUN.true)) (sym c.in_transaction.ensures ∙ c.if-in_transaction.true) c.requires.1.1), c.requires.1.0)
+    ((roomy a.state a.streams.now a.opened.count a.opened.next a.request c.requires.1.0 c.requires.0 (ap (is RUN) c.in-Run.is) (sym c.if-not-in_transaction.ensures) c.requires.1.1).0, c.requires.1.0)
 
-pub overflow_add-result-then-in_transaction : goal.overflow_add-result-then-in_transaction
-overflow_add-result-then-in_transaction c =
+pub overflow_add-result-in-Run : goal.overflow_add-result-in-Run
+overflow_add-result-in-Run c =
     let a = c.args in
-    let o = open_of a.streams.now a.opened a.next in
-    record { fits = omega (arith, roomy a.state o a.request (eq-eqb _ _ (sym c.tag-tag.ensures ∙ c.if-tag-eq-RUN.true)) (sym c.in_transaction.ensures ∙ c.if-in_transaction.true) c.requires.1.1) }
+    record { fits = omega (arith, roomy a.state a.streams.now a.opened.count a.opened.next a.request c.requires.1.0 c.requires.0 (ap (is RUN) c.in-Run.is) (sym c.if-not-in_transaction.ensures) c.requires.1.1) }
 
-pub returns-then-in_transaction : goal.returns-then-in_transaction
-returns-then-in_transaction c =
+pub returns-in-Discard : goal.returns-in-Discard
+returns-in-Discard c =
     let a = c.args in
-    let o = open_of a.streams.now a.opened a.next in
-    subst (λ (m : Open). Laid m a.streams.now c.push.new.streams (record { count = a.opened + 1; next = a.next + 1 }))
-    (streams-by a.state a.request (sym c.fetches.ensures ∙ c.if-fetches.false) (eq-eqb _ _ (sym c.tag-tag.ensures ∙ c.if-tag-eq-RUN.true)) (sym c.in_transaction.ensures ∙ c.if-in_transaction.true) o refl)
-    (laid_more a.streams.now a.opened c.requires.1.0 a.next c.push.new.streams (fewer a.streams.now a.opened a.next c.requires.1.0 c.requires.0 (roomy a.state o a.request (eq-eqb _ _ (sym c.tag-tag.ensures ∙ c.if-tag-eq-RUN.true)) (sym c.in_transaction.ensures ∙ c.if-in_transaction.true) c.requires.1.1)) c.push.ensures)
+    let o = open_of a.streams.now a.opened.count a.opened.next in
+    subst (λ (m : Open). Laid m a.streams.now c.remove-count.new.streams (record { count = c.remove-count.result; next = a.opened.next }))
+    (fetched a.state o a.request (⊎_elim (λ e. ap fetches e.2) (λ e. ap fetches e.2) c.in-Discard.is))
+    (laid-less a.streams.now a.opened.count a.opened.next c.remove-count.new.streams (c.number_of-number.ensures ∙ ap (λ x. named x a.opened.next) c.asked.ensures)
+    (c.remove-count.ensures.left, c.remove-count.ensures.moved))
 
-pub returns-then-tag-eq-RUN : goal.returns-then-tag-eq-RUN
-returns-then-tag-eq-RUN c =
+pub returns-else-not-in_transaction : goal.returns-else-not-in_transaction
+returns-else-not-in_transaction c =
     let a = c.args in
-    let o = open_of a.streams.now a.opened a.next in
-    let run = eq-eqb _ _ (sym c.tag-tag.ensures ∙ c.if-tag-eq-RUN.true) in
-    stay a.streams.now a.opened a.next c.requires.1.0 c.requires.0 (streams-by a.state a.request (sym c.fetches.ensures ∙ c.if-fetches.false) run (sym c.in_transaction.ensures ∙ c.if-in_transaction.false) o (run-begins a.request run))
+    let o = open_of a.streams.now a.opened.count a.opened.next in
+    rw (c.in-Run.is, ← run-opens a.state o (sym c.if-not-in_transaction.ensures))
+    (laid_more a.streams.now a.opened.count c.requires.1.0 a.opened.next c.push.new.streams
+    (roomy a.state a.streams.now a.opened.count a.opened.next a.request c.requires.1.0 c.requires.0 (ap (is RUN) c.in-Run.is) (sym c.if-not-in_transaction.ensures) c.requires.1.1).0 c.push.ensures)
 
-pub returns-then-tag-eq-BEGIN : goal.returns-then-tag-eq-BEGIN
-returns-then-tag-eq-BEGIN c =
+pub returns-in-Begin : goal.returns-in-Begin
+returns-in-Begin c =
     let a = c.args in
-    let o = open_of a.streams.now a.opened a.next in
-    subst (λ (m : Open). Laid m a.streams.now a.streams.now (record { count = 0; next = 0 }))
-    (streams-by a.state a.request (sym c.fetches.ensures ∙ c.if-fetches.false) (ne_eqb _ _ (λ e. c.if-tag-eq-RUN.false (c.tag-tag.ensures ∙ e))) refl o (eq-eqb _ _ (sym c.tag-tag.ensures ∙ c.if-tag-eq-BEGIN.true)))
-    (record { count = refl; next = refl; numbers = refl })
+    rw (c.in-Begin.is, ← begun a.state (open_of a.streams.now a.opened.count a.opened.next)) (record { count = refl; next = refl; numbers = refl })
 
-pub returns : goal.returns
-returns c =
+pub returns-in_default : goal.returns-in_default
+returns-in_default c =
     let a = c.args in
-    let o = open_of a.streams.now a.opened a.next in
-    stay a.streams.now a.opened a.next c.requires.1.0 c.requires.0 (streams-by a.state a.request (sym c.fetches.ensures ∙ c.if-fetches.false) (ne_eqb _ _ (λ e. c.if-tag-eq-RUN.false (c.tag-tag.ensures ∙ e))) refl o (ne_eqb _ _ (λ e. c.if-tag-eq-BEGIN.false (c.tag-tag.ensures ∙ e))))
+    let o = open_of a.streams.now a.opened.count a.opened.next in
+    subst (λ (m : Open). Laid m a.streams.now a.streams.now a.opened)
+    (others-stay a.state o a.request c.in_default.not-Run c.in_default.not-Begin c.in_default.not-Discard c.in_default.not-Pull)
+    (laid-own a.streams.now a.opened.count c.requires.1.0 a.opened.next c.requires.0)

@@ -1,11 +1,7 @@
 -- `steps::streams::remove` meets its contract. The loop's invariant: of the first `i` numbers, those that stay stand at the front, and the
 -- others stand where they stood. Assumes nothing.
-use Prim.Native.Nat.{◌-◌, ◌≤◌}
 use Rattle.steps.proofs.Removing.{Kept}
 use Rattle.steps.proofs.streams.remove.Given as goal
 
 abbrev pub invariant-loop-i : goal.invariant-loop-i
-invariant-loop-i l = (l.i ≤ l.count) × Kept l.number l.initial.streams l.streams l.left l.i
-
-abbrev pub decreases-loop-i : goal.decreases-loop-i
-decreases-loop-i l = l.count - l.i
+invariant-loop-i l = Kept l.number l.initial.streams l.streams l.left l.i

@@ -12,9 +12,3 @@ returns-in-Success c = rw c.in-Success.is (ap length success-form)
 
 pub returns-in-HasMore : goal.returns-in-HasMore
 returns-in-HasMore c = rw c.in-HasMore.is (has-more-size c.in-HasMore.field-0)
-
-pub returns-in-Stream : goal.returns-in-Stream
-returns-in-Stream c = rw c.in-Stream.is c.stream_length.ensures
-
-pub returns-in-Failure : goal.returns-in-Failure
-returns-in-Failure c = rw c.in-Failure.is c.failure_length.ensures

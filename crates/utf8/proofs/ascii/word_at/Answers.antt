@@ -1,30 +1,17 @@
--- `utf8::ascii::word_at` meets its contract. The loop's invariant: i bytes are put together. Assumes nothing.
-use mathlib.Core.Path.{◌≡◌, refl}
-use Prim.Native.Nat.{◌+◌}
-use native.Mathlib.Omega.{arith}
+-- `utf8::ascii::word_at` meets its contract: std's number of eight bytes is theirs. Assumes nothing.
+use Rattle.std.proofs.Common.{◌≡◌, ◌+◌, ◌-◌, ap, ◌∙◌, length, arith}
+use Rattle.slices.specs.Parts.{part}
+use Rattle.slices.proofs.Parts.{length_part}
 use Rattle.utf8.specs.Private.Ascii.{little_endian}
-use Rattle.utf8.proofs.TopBits.{next-byte}
+use Rattle.utf8.proofs.TopBits.{worth-of}
 use Rattle.utf8.proofs.ascii.word_at.Goals as goal
-
-pub loop-i-init : goal.loop-i-init
-unfolding little_endian
-loop-i-init c = (omega arith, refl)
-
-pub overflow_cast-word : goal.overflow_cast-word
-overflow_cast-word c =
-    let a = c.args in
-    omega (arith, c.type_inv.bytes (a.at + c.loop-i.i))
-
-pub loop-i-preserved : goal.loop-i-preserved
-loop-i-preserved c =
-    let a = c.args in
-    let l = c.loop-i in (
-      omega arith,
-      rw l.invariant.1 (next-byte a.bytes.now a.at l.i (λ j. (c.type_inv.bytes j).fits) (omega arith) (omega arith)),
-    )
 
 pub returns : goal.returns
 returns c =
-    let l = c.loop-i in
-    let e : l.i ≡ 8 = omega arith in
-    rw e at l.invariant.1
+    let a = c.args in
+    let s = part a.bytes.now a.at 8 in
+    let k : a.at + 8 - a.at ≡ 8 = omega arith in
+    let t = rw c.unwrap.ensures at c.try_into.ensures.1 in
+    let e : c.unwrap.result ≡ s = t.same ∙ ap (λ n. part a.bytes.now a.at n) k in
+    let n : length c.unwrap.result ≡ 8 = ap length e ∙ length_part a.bytes.now a.at 8 c.requires in
+    c.from_le_bytes.ensures ∙ worth-of c.unwrap.result 7 n ∙ ap little_endian e

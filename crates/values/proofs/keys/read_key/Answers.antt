@@ -1,42 +1,42 @@
 -- `values::keys::read_key` meets its contract. Assumes nothing.
-use mathlib.Core.Path.{sym, ap, ◌∙◌}
-use borrow.Author.Tests.{not-true, not-false}
-use Rattle.values.specs.Private.Keys.{key_of_parse, keys_of}
-use Rattle.values.proofs.KeySearch.{key-by, leaf-key-inside, key-no-text, key-repeated, key-new}
+use mathlib.Core.Path.{◌≡◌, sym}
+use Prim.Native.Nat.{◌+◌, ◌-◌}
+use native.Mathlib.Omega.{arith}
+use Rattle.std.proofs.Common.{rules}
+use Rattle.values.specs.Private.Keys.{keys_of}
+use Rattle.values.proofs.KeySearch.{key-stopped, key-lies, key-no-text, key-repeated, key-new}
 use Rattle.values.proofs.keys.read_key.Goals as goal
+
+pub returns-in_err-key : goal.returns-in_err-key
+returns-in_err-key c =
+    let a = c.args in
+    search (rules, key-stopped a.message.now (keys_of a.message.now a.keys.now) a.at _ c.in_err-key.ensures)
 
 pub returns-then-not-is_utf8_part : goal.returns-then-not-is_utf8_part
 returns-then-not-is_utf8_part c =
     let a = c.args in
-    c.refused.ensures
-    ∙ key-no-text a.message.now (keys_of a.message.now a.scratch.now a.base a.count) a.at _ _ _ c.in-Leaf.ensures (sym c.is_utf8_part.ensures ∙ not-true _ c.if-not-is_utf8_part.true-raw)
+    rw c.at.ensures (key-no-text a.message.now (keys_of a.message.now a.keys.now) a.at _ c.in_ok-key.ensures (sym c.if-not-is_utf8_part.ensures))
 
-pub repeats-requires : goal.repeats-requires
-repeats-requires c =
+pub overflow_add-key : goal.overflow_add-key
+overflow_add-key c =
     let a = c.args in
-    (leaf-key-inside a.message.now (keys_of a.message.now a.scratch.now a.base a.count) a.at _ _ _ c.in-Leaf.ensures, c.requires.0, c.requires.1)
+    omega (arith, key-lies a.message.now (keys_of a.message.now a.keys.now) a.at _ c.in_ok-key.ensures)
+
+pub slice_bounds-repeats-end : goal.slice_bounds-repeats-end
+slice_bounds-repeats-end c =
+    let a = c.args in
+    key-lies a.message.now (keys_of a.message.now a.keys.now) a.at _ c.in_ok-key.ensures
 
 pub returns-then-repeats : goal.returns-then-repeats
 returns-then-repeats c =
     let a = c.args in
-    c.refused-then-repeats.ensures
-    ∙ key-repeated a.message.now (keys_of a.message.now a.scratch.now a.base a.count) a.at _ _ _ c.in-Leaf.ensures (sym c.is_utf8_part.ensures ∙ not-false _ c.if-not-is_utf8_part.false-raw)
-    (sym c.repeats.ensures ∙ c.if-repeats.true)
+    let k = c.in_ok-key.key in
+    let size : k.start + k.size - k.start ≡ k.size = omega arith in
+    rw c.at-then-repeats.ensures (key-repeated a.message.now (keys_of a.message.now a.keys.now) a.at _ c.in_ok-key.ensures (sym c.if-not-is_utf8_part.ensures) (rw size at (sym c.if-repeats.ensures)))
 
-pub returns-else-repeats : goal.returns-else-repeats
-returns-else-repeats c =
+pub returns : goal.returns
+returns c =
     let a = c.args in
-    key-new a.message.now (keys_of a.message.now a.scratch.now a.base a.count) a.at _ _ _ c.in-Leaf.ensures (sym c.is_utf8_part.ensures ∙ not-false _ c.if-not-is_utf8_part.false-raw)
-    (sym c.repeats.ensures ∙ c.if-repeats.false)
-
-pub returns-in-Container : goal.returns-in-Container
-returns-in-Container c =
-    let a = c.args in
-    c.refused-in-Container.ensures
-    ∙ ap key_of_parse (key-by a.message.now (keys_of a.message.now a.scratch.now a.base a.count) a.at _ c.in-Container.ensures)
-
-pub returns-in-Refused : goal.returns-in-Refused
-returns-in-Refused c =
-    let a = c.args in
-    c.refused-in-Refused.ensures
-    ∙ ap key_of_parse (key-by a.message.now (keys_of a.message.now a.scratch.now a.base a.count) a.at _ c.in-Refused.ensures)
+    let k = c.in_ok-key.key in
+    let size : k.start + k.size - k.start ≡ k.size = omega arith in
+    key-new a.message.now (keys_of a.message.now a.keys.now) a.at _ c.in_ok-key.ensures (sym c.if-not-is_utf8_part.ensures) (rw size at (sym c.if-repeats.ensures))

@@ -1,28 +1,37 @@
 -- `values::read::read_at` meets its contract. Assumes nothing.
-use mathlib.Core.Path.{sym, ap, ◌∙◌}
-use Rattle.values.specs.Reading.{told, tell_value}
-use Rattle.values.proofs.Answers.{value-too-long, value-not-long, read_head, read-no-head, read-stopped}
+use mathlib.Core.Path.{◌≡◌, ap, ◌∙◌}
+use Rattle.std.proofs.Common.{rules}
+use Rattle.std.specs.Prelude.{Err, Some}
+use Rattle.refusal.specs.Answer.{refused, told_at}
+use Rattle.refusal.specs.Numbers.{number_of}
+use Rattle.refusal.specs.declared.Fault.{Fault}
+use Rattle.values.specs.Reading.{tell_value}
+use Rattle.values.specs.Walk.{peek_at}
+use Rattle.values.proofs.Answers.{value-too-long, value-not-long, there_is_head, read_head, read-stopped}
 use Rattle.values.proofs.read.read_at.Goals as goal
 
 pub returns-then-message-gt-MOST_BYTES : goal.returns-then-message-gt-MOST_BYTES
 returns-then-message-gt-MOST_BYTES c =
     let a = c.args in
-    ap told c.refused.ensures ∙ ap tell_value (value-too-long a.message.now a.depth a.at c.if-message-gt-MOST_BYTES.true)
+    ap (λ (f : Fault). refused (number_of f.refusal) f.place) c.into.ensures ∙ ap tell_value (value-too-long a.message.now a.depth a.at c.if-message-gt-MOST_BYTES.true)
 
-pub returns-in_default : goal.returns-in_default
-returns-in_default c =
+pub returns-in_err-end : goal.returns-in_err-end
+returns-in_err-end c =
     let a = c.args in
-    absurd (read-no-head a.message.now a.depth a.at c.requires _ ((sym c.in-To.is ∙ c.read_through.ensures)) (sym c.in_default.is ∙ c.peek.ensures))
-
-pub returns-in-Value : goal.returns-in-Value
-returns-in-Value c =
-    let a = c.args in
-    read_head a.message.now a.depth a.at c.requires _ ((sym c.in-To.is ∙ c.read_through.ensures)) _ (sym c.in-Value.is ∙ c.peek.ensures)
+    let e : c.from_residual.result ≡ Err c.in_err-end.field-0.0 = search rules in
+    ap told_at e ∙ read-stopped a.message.now a.depth a.at _ c.in_err-end.ensures
     ∙ ap tell_value (value-not-long a.message.now a.depth a.at c.if-message-gt-MOST_BYTES.false)
 
-pub returns-in-Refused : goal.returns-in-Refused
-returns-in-Refused c =
+pub unwrap-head-requires : goal.unwrap-head-requires
+unwrap-head-requires c =
     let a = c.args in
-    ap told c.refused-in-Refused.ensures
-    ∙ read-stopped a.message.now a.depth a.at _ _ (sym c.in-Refused.is ∙ c.read_through.ensures)
+    there_is_head a.message.now a.depth a.at c.requires c.in_ok-end.end c.in_ok-end.ensures c.peek.result c.peek.ensures
+
+pub returns : goal.returns
+returns c =
+    let a = c.args in
+    let u = c.unwrap-head.ensures in
+    let p = c.peek.ensures in
+    let f : Some c.unwrap-head.result ≡ peek_at a.message.now a.at = cc in
+    read_head a.message.now a.depth a.at c.requires c.in_ok-end.end c.in_ok-end.ensures c.unwrap-head.result f
     ∙ ap tell_value (value-not-long a.message.now a.depth a.at c.if-message-gt-MOST_BYTES.false)

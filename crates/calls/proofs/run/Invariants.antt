@@ -1,9 +1,0 @@
--- `calls::run` is safe and ends. The measure is the turns left. Assumes nothing.
-use Rattle.std.proofs.Common.{◌≡◌, length}
-use Rattle.calls.proofs.run.Given as goal
-
-abbrev pub invariant-loop-turns : goal.invariant-loop-turns
-invariant-loop-turns l = (length l.block ≡ length l.initial.block) × (length l.held ≡ length l.initial.held) × (length l.bytes ≡ length l.initial.bytes)
-
-abbrev pub decreases-loop-turns : goal.decreases-loop-turns
-decreases-loop-turns l = l.turns

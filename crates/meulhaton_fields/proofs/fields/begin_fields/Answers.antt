@@ -1,5 +1,0 @@
--- `meulhaton_fields::fields::begin_fields` meets its contract. Assumes nothing.
-use Rattle.meulhaton_fields.proofs.fields.begin_fields.Goals as goal
-
-pub returns : goal.returns
-returns c = λ j. record { hello = c.no_hello-hello.ensures j; run = c.no_run-run.ensures j; transaction = c.transaction_image-transaction.ensures j }

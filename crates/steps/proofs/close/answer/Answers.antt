@@ -1,5 +1,0 @@
--- `steps::close::answer` meets its contract. Assumes nothing.
-use Rattle.steps.proofs.close.answer.Goals as goal
-
-pub returns : goal.returns
-returns c = λ i. record { control = c.renewed.ensures i; answer = c.args.answer }
