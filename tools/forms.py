@@ -92,7 +92,7 @@ def travelling():
 
 show("1  enums of the shape of Option or Result", enums())
 show("1  flags with a value beside", lines(r"pub (found|ended|goes_on|present): "))
-show("1  numbers for kinds", lines(r"^pub const (USER_AGENT|SCHEME|PRINCIPAL|CREDENTIALS|ROUTING|BOOKMARKS|TX_TIMEOUT|TX_METADATA|MODE|DB|N|QID|HELLO|RESET|RUN|BEGIN|DISCARD|PULL): u"))
+show("1  numbers for kinds", lines(r"^pub const (USER_AGENT|SCHEME|PRINCIPAL|CREDENTIALS|ROUTING|BOOKMARKS|TX_TIMEOUT|TX_METADATA|MODE|DB|N|QID|HELLO|GOODBYE|RESET|RUN|BEGIN|COMMIT|ROLLBACK|DISCARD|PULL): u"))
 show("2  groups of functions with one body", twins())
 show("2  groups of types with one body", twin_types())
 show("2  groups of functions that share six lines", shared())
