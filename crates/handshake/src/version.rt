@@ -19,8 +19,13 @@ impl Version {
     pub fn from_bytes(bytes: [u8; 4]) -> Option<Version>
         ensures { named_by result ≡ proposed bytes }
     {
-        match bytes {
-            [0, 0, minor @ 0..=2, 4] => Some(Version { minor }),
+        let [0, 0, minor, 4] = bytes else {
+            return None;
+        };
+        match minor {
+            0 => Some(Version::V4_0),
+            1 => Some(Version::V4_1),
+            2 => Some(Version::V4_2),
             _ => None,
         }
     }
