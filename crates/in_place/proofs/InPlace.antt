@@ -1,8 +1,10 @@
 -- A call on a record that stays where it lies, whatever it does with it: what its types are, where a walk of its MIR ends, and that it meets its
--- contract where its walk is at hand. Such a walk knows of each function that it calls only that it meets its contract. `Lending` and `Passing` have
--- the walks.
+-- contract where its walk is at hand. Such a walk knows of each function that it calls only that it meets its contract. `Lending`, `LendingTwo` and
+-- `Passing` have the walks.
 --     Plain                a type of one machine value that owns only facts. `of_field` makes one of a declared type's laws, `of-builtin` and `of_array` of others'
 --     Two P A B            P is a struct of two fields, A and B
+--     off                  where a struct's field lies
+--     pass, passed         plain arguments as those of a function that is called, with lifetimes of its own; and they are of their types
 --     Ensures, Called-on   what a function on a `&mut` of a record ensures, whatever else it is passed; and the contract that says it
 --     Held                 what the function has of the `&mut` at exit: it still owns it, or it has passed it on for good
 --     exits, walk-holds    where a walk of such a function ends; and that it meets its contract, where its walk is at hand
@@ -10,15 +12,17 @@
 --     Cited, knows         a function that is called; and that it meets its contract where it is called
 -- Assumes nothing.
 use mathlib.Core.Path.{◌≡◌, refl, sym, subst}
-use Prim.Native.Nat.{ℕ}
+use Prim.Native.Nat.{ℕ, zero}
+use mathlib.Core.Option.{Option, none, some as Some-of}
 use mathlib.Core.List.{[], ◌∷◌, List}
 use seplogic.Ra.Ura.{Ura}
 use base.Fraction.{full_share}
 use lib.Dec.{T as Holds}
-use mir.Syntax.{Callee, Sym, Ty, ty_struct, tcons, tnil, named, Local, local, value_local, Fn}
+use mir.Syntax.{Callee, Sym, Ty, ty_struct, Tys, tcons, tnil, named, Local, local, value_local, Fn}
 use mir.Val.{Val, vptr, vstruct, vcons, vnil, has_ty, WT}
 use base.Logic.{SProp, ent, sep, emp, via, fst∗, id⊢}
 use base.Fml.{GName, Lft, Share, Fml, ftrue, fat, flft}
+use prog.Memory.{field_at}
 use prog.Model.{Model}
 use prog.Routine.{Routine, Env}
 use prog.Wp.{Heap, Calls, Loops, WpFn, Closed}
@@ -125,6 +129,14 @@ module _ {M : Type 1} {𝓤 : Ura M} (𝓛 : Logic 𝓤) where
   pub back : (τs : List Ty) (τ : Ty) → τs ≡ τ ∷ [] → (b o : ℕ) (v : Val) → ent 𝓤 (sem 𝓛 (fat full_share τ b o v)) (sem 𝓛 (cell_at full_share τs (v ∷ []) b o))
   back τs τ e b o v = subst (λ (σs : List Ty). ent 𝓤 (sem 𝓛 (fat full_share τ b o v)) (sem 𝓛 (cell_at full_share σs (v ∷ []) b o))) (sym e) (𝓛.laws.at_raw full_share τ b o v)
 
+-- where a struct's field lies
+abbrev offset : Option (Ty × ℕ) → ℕ
+offset none = zero
+offset (Some-of f) = f.1
+
+abbrev pub off : Tys → ℕ → ℕ
+off τs k = offset (field_at zero τs k)
+
 -- ---- plain parameters
 abbrev pub slots : (n : ℕ) → List Plain → List (Slot n)
 slots n [] = []
@@ -179,6 +191,16 @@ module _ (n : ℕ) (κs : Lfts n) where
     having (P ∷ Ps) a are =
         qed 𝓛 [] ∵ use0 𝓛 (‵ (has_of κs (slots n Ps) (all yes (slots n Ps)) (stay n Ps) a.1 (lasting Ps a.1) (values Ps a.1))) (having Ps a.1 are.1) $
         owned ! P.row (Is P.row) (P.makes 𝓛) a.0 _ are.0 $ frame ! $ done !
+
+-- plain parameters are passed on to a function that has n lifetimes
+module _ (n : ℕ) (κs : Lfts 1) (κs' : Lfts n) where
+  abbrev pub pass : (Ps : List Plain) → Values 1 κs Ps → Values n κs' Ps
+  pass [] a = tt
+  pass (P ∷ Ps) a = (a.0, pass Ps a.1)
+
+  pub passed : (Ps : List Plain) (a : Values 1 κs Ps) → AreAt 1 κs Ps a → AreAt n κs' Ps (pass Ps a)
+  passed [] a are = tt
+  passed (P ∷ Ps) a are = (are.0, passed Ps a.1 are.1)
 
 going : {M : Type 1} {𝓤 : Ura M} (𝓛 : Logic 𝓤) (n : ℕ) (Ps : List Plain) → AllGo 𝓛 n (slots n Ps) (all yes (slots n Ps)) (stay n Ps)
 going 𝓛 n [] = tt

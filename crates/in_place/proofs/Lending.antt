@@ -10,7 +10,6 @@
 -- Assumes nothing.
 use mathlib.Core.Path.{◌≡◌, refl, sym, ◌∙◌, ap, subst}
 use Prim.Native.Nat.{ℕ, zero, ◌+◌}
-use mathlib.Core.Option.{Option, none, some as Some-of}
 use mathlib.Core.List.{[], ◌∷◌, List}
 use seplogic.Ra.Ura.{Ura}
 use base.Fraction.{full_share}
@@ -19,7 +18,6 @@ use mir.Syntax.{Callee, Sym, Ty, ty_struct, ty_ref, Mutability, mut, Tys, tcons,
 use mir.Val.{Val, vptr, Vals, vstruct, vcons, vnil}
 use base.Logic.{SProp, ent, sep, ex, guard, emp, all as all_of, wand, all_e, apply∗, id⊢}
 use base.Fml.{GName, Lft, Fml, ftrue, fat, flft}
-use prog.Memory.{field_at}
 use prog.Model.{Model, fields_at}
 use prog.Routine.{Env}
 use prog.Wp.{Calls, Closed}
@@ -44,7 +42,7 @@ use denote.Triple.Statement.{Contract, Triple}
 use denote.Triple.Call.{calls_at}
 use denote.Triple.Clauses.{Clauses, Ended, Lasts, ensured, lasts, closing}
 use denote.Triple.End.{all}
-use Rattle.in_place.proofs.InPlace.{Plain, Fits, Two, two, typed, out, back, slots, Values, values, AreAt, owning, value, places, owned-still, Cited, knows, Ensures, Called-on, exits, Walked, walk-holds}
+use Rattle.in_place.proofs.InPlace.{Plain, Fits, Two, two, typed, out, back, slots, Values, values, AreAt, owning, value, places, owned-still, pass, passed, off, Cited, knows, Ensures, Called-on, exits, Walked, walk-holds}
 use Rattle.in_place.proofs.Lent.{Ref, To, after, last, Kept, lent_at, now_of, now-lent, lend, comes_back}
 
 -- ---- the record, and the function
@@ -95,24 +93,6 @@ record Names : Type 0 where
 
 abbrev lfts : Names → Lfts 4
 lfts n = (n.κA ∷ [], (n.κB ∷ [], (n.κC ∷ [], (n.κD ∷ [], tt))))
-
--- the further arguments are passed on
-module _ (κs : Lfts 1) (κs' : Lfts 4) where
-  abbrev pass : (Ps : List Plain) → Values 1 κs Ps → Values 4 κs' Ps
-  pass [] a = tt
-  pass (P ∷ Ps) a = (a.0, pass Ps a.1)
-
-  passed : (Ps : List Plain) (a : Values 1 κs Ps) → AreAt 1 κs Ps a → AreAt 4 κs' Ps (pass Ps a)
-  passed [] a are = tt
-  passed (P ∷ Ps) a are = (are.0, passed Ps a.1 are.1)
-
--- where a struct's field lies
-abbrev offset : Option (Ty × ℕ) → ℕ
-offset none = zero
-offset (Some-of f) = f.1
-
-abbrev off : Tys → ℕ → ℕ
-off τs k = offset (field_at zero τs k)
 
 -- ---- the record's cell is its fields' cells side by side
 module _ (z : Lends) where
@@ -212,7 +192,7 @@ module _ (z : Lends) (Xs : List Plain) where
 
   -- and what the function ensures follows of it
   abbrev pub Gives : Ensures T R Xs → Step-ensures → Type 0
-  Gives Q S = (κ : Lft) (h : T.row.Denot) (xs : Values 1 (κ, tt) Xs) (κs : Lfts 4) (y : Left) → S κs (joined (control h) (first h) (second h) (third h) (fourth h)) (pass (κ, tt) κs Xs xs) y
+  Gives Q S = (κ : Lft) (h : T.row.Denot) (xs : Values 1 (κ, tt) Xs) (κs : Lfts 4) (y : Left) → S κs (joined (control h) (first h) (second h) (third h) (fourth h)) (pass 4 (κ, tt) κs Xs xs) y
       → Q (κ, tt) h xs (gave.right y.result) (stored y)
 
   module _ (S : Step-ensures) (M : Type 1) (𝓤 : Ura M) (𝓛 : Logic 𝓤) where
@@ -243,7 +223,7 @@ module _ (z : Lends) (Xs : List Plain) where
       ref-D n = lent_at by-D p (o + off (τs z) 4) n.γD (fourth h)
 
       abbrev further : (n : Names) → Values 4 (lfts n) Xs
-      further n = pass (κ, tt) (lfts n) Xs xs
+      further n = pass 4 (κ, tt) (lfts n) Xs xs
 
       abbrev args : (n : Names) → Args called.signature (lfts n)
       args n = (control h, (ref-A n, (ref-B n, (ref-C n, (ref-D n, further n)))))
@@ -279,7 +259,7 @@ module _ (z : Lends) (Xs : List Plain) where
           let n : Names = record { κA = κA; κB = κB; κC = κC; κD = κD; γA = γA; γB = γB; γC = γC; γD = γD } in
           at_once ! $ show ! (λ (n : Names). sep 𝓤 (Called.pre (to_step n)) (mean 𝓛 (Lender n))) n $
           nothing ! $ move ! (3 ∷ 0 ∷ []) $ join ! $ move ! (5 ∷ 0 ∷ []) $ join ! $ move ! (7 ∷ 0 ∷ []) $ join ! $ move ! (9 ∷ 0 ∷ []) $ join ! $
-          use0 𝓛 (‵ (owns (types_at (slots 4 Xs) (lfts n)) (further n) (values 4 (lfts n) Xs (further n)))) (owning 4 (lfts n) 𝓛 Xs (further n) (passed (κ, tt) (lfts n) Xs xs are)) $ move ! (2 ∷ 0 ∷ []) $ fjoin ! $ move ! (3 ∷ 0 ∷ []) $ fjoin ! $ move ! (4 ∷ 0 ∷ []) $ fjoin ! $ move ! (5 ∷ 0 ∷ []) $ fjoin ! $
+          use0 𝓛 (‵ (owns (types_at (slots 4 Xs) (lfts n)) (further n) (values 4 (lfts n) Xs (further n)))) (owning 4 (lfts n) 𝓛 Xs (further n) (passed 4 (κ, tt) (lfts n) Xs xs are)) $ move ! (2 ∷ 0 ∷ []) $ fjoin ! $ move ! (3 ∷ 0 ∷ []) $ fjoin ! $ move ! (4 ∷ 0 ∷ []) $ fjoin ! $ move ! (5 ∷ 0 ∷ []) $ fjoin ! $
           owned ! K.row (Is K.row) (K.makes 𝓛) (control h) _ fits.0 $ fjoin ! $ move ! (1 ∷ 0 ∷ []) $ join ! $ nothing ! $ move ! (1 ∷ 0 ∷ []) $ join ! $ frame ! $ move ! (5 ∷ 3 ∷ 2 ∷ 1 ∷ 0 ∷ 4 ∷ []) $ done !))))
 
       -- what is known once the step has returned v
