@@ -8,11 +8,10 @@ use native.Mathlib.Numerals.{add-one}
 use native.Mathlib.Omega.{arith}
 use lib.Arith.{digits_div, digits_lt, mod-mul}
 use lib.Dec.{eqb, lit<}
-use lib.ListN.{length, get_or, drop, length-append, length-drop}
+use lib.ListN.{length, get_or, set, drop, length-append, length-drop}
 use lib.Pow.{pow-add}
-use lib.Seq.{take-suc, get_or-drop}
+use lib.Seq.{take-suc, get_or-drop, sets}
 use borrow.Author.Tests.{eqb-true}
-use Rattle.std.specs.Int.{w64, to_be_bytes}
 use Rattle.slices.specs.Parts.{part}
 use Rattle.slices.proofs.Below.{below}
 use Rattle.numbers.specs.BigEndian.{big_endian, bytes_of, Bytes}
@@ -130,21 +129,10 @@ bytes_of-two n h = ap₂ (λ (a b : ℕ). a ∷ b ∷ []) (high n h) (low n)
     low : (n : ℕ) → n / 1 % 256 ≡ n % 256
     low n = omega arith
 
--- all eight, as std has them
-pub bytes_of-eight : (n : ℕ) → bytes_of 8 n ≡ to_be_bytes w64 n
+-- a store takes one byte off what is left to store
+pub store-next : (d : List ℕ) (i j n : ℕ) → sets (set d i (n / 2 ^ (8 * j) % 256)) (i + 1) (bytes_of j n) ≡ sets d i (bytes_of (suc j) n)
 unfolding bytes_of
-bytes_of-eight n = let e : n / 1 ≡ n = omega arith in rw e refl
-
--- the last k of them are the lowest
-pub bytes_after : (j k n : ℕ) → drop j (bytes_of (j + k) n) ≡ bytes_of k n
-unfolding bytes_of
-bytes_after zero k n = let e : 0 + k ≡ k = omega arith in rw e refl
-bytes_after (suc j) k n = let e : suc j + k ≡ suc (j + k) = omega arith in rw e (bytes_after j k n)
-
-pub bytes_last : (k n : ℕ) → k ≤ 8 → drop (8 - k) (bytes_of 8 n) ≡ bytes_of k n
-bytes_last k n h =
-    let e : 8 - k + k ≡ 8 = omega arith in
-    ap (λ (i : ℕ). drop (8 - k) (bytes_of i n)) (sym e) ∙ bytes_after (8 - k) k n
+store-next d i j n = rw (add-one i, pow256-bits j)
 
 -- what is above the k bytes does not show in them
 pub bytes_low : (k x m : ℕ) → bytes_of k (x * 256 ^ k + m) ≡ bytes_of k m

@@ -1,5 +1,5 @@
 // Numbers in byte slices, the highest byte first: unsigned, as sizes are stored, and in two's complement, as integers are
-// (document 01, "Values"). A number is 1, 2, 4 or 8 bytes wide; one loop reads every width, and one copy writes it. Slice, offset and width
+// (document 01, "Values"). A number is 1, 2, 4 or 8 bytes wide; one loop reads every width, and one writes it. Slice, offset and width
 // stay three parameters: each call has its own offset and width, and a struct of them would be made for that call alone.
 #![tactic(auto)]
 
@@ -79,7 +79,11 @@ fn store(bytes: &mut [u8], at: usize, width: usize, number: u64) -> Result<(), W
     if !in_bounds(bytes.len(), at, width) {
         return Err(WriteError::OutOfBounds);
     }
-    bytes[at..at + width].copy_from_slice(&number.to_be_bytes()[8 - width..]);
+    // Byte by byte, and no copy out of `to_be_bytes`: that is a call of memcpy, which an archive for C would need from outside.
+    for i in 0..width {
+        let left = width - 1 - i;
+        bytes[at + i] = ((number >> (8 * left)) % 256) as u8;
+    }
     Ok(())
 }
 

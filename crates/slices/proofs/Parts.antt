@@ -8,11 +8,8 @@ use native.Mathlib.Omega.{arith}
 use lib.Dec.{ltb, lit<}
 use lib.ListN.{length, get_or, take, drop, set, length-drop, length-append, length-take, drop_of_length-le, get_or-eq_default}
 use lib.Seq.{drop-cons, sets, sets-eq, get_or-drop, get_or-take, length-take-le, take_all, take-nil, take_at, drop_at, drop-append-add, drop-drop}
-use borrow.Rule.Slice.PartMut.{put_mid}
-use Rattle.std.proofs.lemmas.Slice.{put_mid-paste}
-use Rattle.std.proofs.lemmas.List.Edits.{paste_all}
 use borrow.Author.Tests.{le-leb, lt-leb, leb-true, leb-false, ltb-true, ltb-false}
-use Rattle.slices.specs.Parts.{part, reaches, fits, copied, front}
+use Rattle.slices.specs.Parts.{part, reaches, fits, front}
 
 -- a part that lies inside the list has its full size
 pub length_part : (s : List ℕ) (start size : ℕ) → start + size ≤ length s → length (part s start size) ≡ size
@@ -86,19 +83,23 @@ module _ (s : List ℕ) (start size : ℕ) (d : List ℕ) (at : ℕ) where
   pub fits-yes : start + size ≤ length s → at + size ≤ length d → fits s start size d at ≡ true
   fits-yes h k = rw (reaches-yes s start size h, reaches-yes d at size k)
 
--- ---- a copy between two slices of slices
--- a part written over is a run of stores
-put_sets : (d v : List ℕ) (at k : ℕ) → k ≡ length v → at + k ≤ length d → put_mid at k d v ≡ sets d at v
-put_sets d v at k e h =
-    let l : at + length v ≤ length d = omega (arith, e) in
-    put_mid-paste at k d v v k refl refl e ∙ paste_all d at v k e
-    ∙ rw e (sym (sets-eq v d at l ∙ append_assoc (take at d) v (drop (at + length v) d)))
+-- ---- the loop of the copy: what is left to copy, copied now, gives what the whole copy gives
+abbrev pub Copying : List ℕ → ℕ → ℕ → List ℕ → ℕ → List ℕ → ℕ → Type 0
+Copying s start size d₀ at d i = sets d (at + i) (part s (start + i) (size - i)) ≡ sets d₀ at (part s start size)
 
--- so a part of one, written over a part of the other, is the copy
-pub copied_between : (s : List ℕ) (start size : ℕ) (d : List ℕ) (at : ℕ) (v : List ℕ) (n : ℕ) → start + size ≤ length s → at + size ≤ length d
-    → v ≡ part s start (start + size - start) → n ≡ size → put_mid at n d v ≡ copied s start size d at
-copied_between s start size d at v n h k e f =
-    let m : start + size - start ≡ size = omega arith in
-    let p : v ≡ part s start size = rw m at e in
-    let l : n ≡ length v = f ∙ sym (ap length p ∙ length_part s start size h) in
-    put_sets d v at n l (omega (arith, f)) ∙ rw (fits-yes s start size d at h k, p)
+pub copying-none : (s : List ℕ) (start size : ℕ) (d : List ℕ) (at : ℕ) → Copying s start size d at d 0
+copying-none s start size d at = simp unary_clauses
+
+pub copying-next : (s : List ℕ) (start size : ℕ) (d₀ : List ℕ) (at : ℕ) (d : List ℕ) (i : ℕ) → i < size → start + i < length s
+    → Copying s start size d₀ at d i → Copying s start size d₀ at (set d (at + i) (get_or s (start + i) 0)) (i + 1)
+copying-next s start size d₀ at d i h k w =
+    let e : size - i ≡ suc (size - (i + 1)) = omega arith in
+    let x : at + (i + 1) ≡ suc (at + i) = omega arith in
+    let y : start + (i + 1) ≡ start + i + 1 = omega arith in
+    rw (x, y) (sym (ap (λ (l : List ℕ). sets d (at + i) l) (ap (part s (start + i)) e ∙ part-cons s (start + i) (size - (i + 1)) k)) ∙ w)
+
+pub copying-done : (s : List ℕ) (start size : ℕ) (d₀ : List ℕ) (at : ℕ) (d : List ℕ) (i : ℕ) → i ≡ size
+    → Copying s start size d₀ at d i → d ≡ sets d₀ at (part s start size)
+copying-done s start size d₀ at d i e w =
+    let z : size - i ≡ 0 = omega arith in
+    (rw z refl) ∙ w
