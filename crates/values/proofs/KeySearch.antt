@@ -33,6 +33,11 @@ other-size s content start size h e = same_length (part s start size) content (�
 other-byte : (s content : List ℕ) (start size k : ℕ) → k < size → (get_or s (start + k) 0 ≡ get_or content k 0 → ⊥) → same (part s start size) content ≡ false
 other-byte s content start size k h e = same_at (part s start size) content k (λ f. e (sym (get_d_part s start size k h) ∙ f))
 
+-- parts of one size whose last elements differ
+pub last-differs : (s : List ℕ) (a : ℕ) (t : List ℕ) (b n : ℕ) → 0 < n → (get_or s (a + (n - 1)) 0 ≡ get_or t (b + (n - 1)) 0 → ⊥) → same (part s a n) (part t b n) ≡ false
+last-differs s a t b n h d =
+    same_at (part s a n) (part t b n) (n - 1) (λ e. d (sym (get_d_part s a n (n - 1) (omega arith)) ∙ e ∙ get_d_part t b n (n - 1) (omega arith)))
+
 -- bytes of one size that are equal at each place
 equal-bytes : (s content : List ℕ) (start size : ℕ) → start + size ≤ length s → size ≡ length content
     → ((k : ℕ) → k < size → get_or s (start + k) 0 ≡ get_or content k 0) → same (part s start size) content ≡ true

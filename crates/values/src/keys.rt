@@ -26,8 +26,9 @@ fn repeats(message: &[u8], keys: &[Key], content: &[u8]) -> bool
         if size != content.len() {
             continue 'search;
         }
-        // Keys of one size often begin alike, so their last bytes are compared first.
-        if 0 < size && message[start + (size - 1)] != content[size - 1] {
+        // Keys of one size often begin alike, so their last bytes are compared first. Whether there is one is asked of the content, which stays from
+        // key to key, and not of the size, which is the same here: the compiler then asks once.
+        if 0 < content.len() && message[start + (size - 1)] != content[size - 1] {
             continue 'search;
         }
         for k in 0..size {

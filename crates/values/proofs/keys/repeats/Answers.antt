@@ -20,7 +20,7 @@ search-preserved-then-message-start c =
     let l = c.search in (
       l.invariant.0,
       key_of_other_byte a.message.now a.keys.now a.content.now l.i _ (omega arith) l.auto.i l.invariant.1 c.requires _ _ c.from-start.ensures c.from-size.ensures
-          (c.from-size.result - 1) (omega (arith, c.if-size-gt0.true)) c.if-message-start.true,
+          (c.from-size.result - 1) (omega (arith, c.if-content-gt0.true, c.if-size-content.false)) c.if-message-start.true,
     )
 
 pub search-preserved : goal.search-preserved
