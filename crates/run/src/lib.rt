@@ -83,9 +83,10 @@ fn feed_line(run: &mut Run, held: &mut [u8], block: &[u8], out: &mut [u8]) -> Fe
         };
     }
     run.begun = 0;
+    let written = handle_line(run, &held[..line.size], out);
     Fed {
         taken: line.taken,
-        written: handle_line(run, &held[..line.size], out),
+        written,
     }
 }
 
